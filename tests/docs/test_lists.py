@@ -66,8 +66,8 @@ def test_settings():
 
 def kinds_in_code():
     """What the lines of the journal begin with."""
-    text = "".join(text_of(f"crates/fwd_program/src/{name}.rt") for name in ("telling", "journal"))
-    return set(re.findall(r'Kind::\w+ => "([a-z ]+)"', text)) | set(re.findall(r'"([a-z ]+): [^"]*\{', text))
+    text = "".join(text_of(f"crates/fwd_program/src/{name}.rt") for name in ("journal_line", "journal"))
+    return set(re.findall(r'LineKind::\w+ => "([a-z ]+)"', text)) | set(re.findall(r'"([a-z ]+): [^"]*\{', text))
 
 
 def fronts(lines):
@@ -107,7 +107,7 @@ def test_refusals():
     told |= {(int(number), name) for number, name in re.findall(r"\b(\d+) ([A-Z]\w+)", text)}
     assert numbers_in_code() <= told
     used = "".join(
-        text_of(f"crates/fwd_{name}/src/{file}.rt") for name, file in [("script", "text"), ("program", "telling")]
+        text_of(f"crates/fwd_{name}/src/{file}.rt") for name, file in [("script", "text"), ("program", "journal_line")]
     )
     printed = set(re.findall(r'=> "([A-Z]\w+)"', used))
     whole = text_of("docs/FORMATS.md")
@@ -117,9 +117,9 @@ def test_refusals():
 def test_names_that_end_a_source_or_a_session():
     """OPERATING says what to do about each name that a line of the journal can have."""
     text = text_of("docs/OPERATING.md")
-    code = text_of("crates/fwd_script/src/text.rt") + text_of("crates/fwd_program/src/telling.rt")
+    code = text_of("crates/fwd_script/src/text.rt") + text_of("crates/fwd_program/src/journal_line.rt")
     heads = {
-        "### Sources that are closed": "source_fault_name scan_fault_name input_fault_name source_end_name admit_refusal_name",
+        "### Sources that are closed": "source_fault_name scan_fault_name input_fault_name close_reason_name admit_refusal_name",
         "### A server that does not answer": "session_fault_name loss_name",
     }
     for heading, functions in heads.items():

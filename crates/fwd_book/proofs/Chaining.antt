@@ -3,9 +3,9 @@ use Rattle.std.proofs.Common.{◌≡◌, ℕ, suc, Bool, true, false, cond, Opti
 use Rattle.std.specs.Prelude.{not, ◌&&◌, ◌==◌, is_some, filter, option_map, option_and_then, unwrap_or, slice_get, IsSome}
 use Rattle.std.specs.List.{list_any}
 use Rattle.std.proofs.lemmas.Bool.{eqb-true, eq-eqb}
-use Rattle.fwd_book.specs.declared.chains.Link.{Link}
-use Rattle.fwd_book.specs.declared.chains.Ends.{Ends}
-use Rattle.fwd_book.specs.declared.chains.Kept.{Kept}
+use Rattle.fwd_book.specs.declared.connection_index.Link.{Link}
+use Rattle.fwd_book.specs.declared.connection_index.Ends.{Ends}
+use Rattle.fwd_book.specs.declared.connection_index.Kept.{Kept}
 use Rattle.fwd_book.specs.History.{is_of}
 use Rattle.fwd_book.specs.Links.{link_of, ends_at, is_the, last_of, link_in, with_later, with_earlier, leads_to, follows_on, with_last, AreOnce, order_with, order_without, AreChained}
 use Rattle.fwd_book.proofs.Facts.{apart, none_some}

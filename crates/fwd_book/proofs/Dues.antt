@@ -3,7 +3,7 @@ use Rattle.std.proofs.Common.{◌≡◌, ℕ, Bool, true, false, cond, suc, Opti
 use Rattle.std.specs.Prelude.{map, filter, not, ◌&&◌, ◌||◌, slice_get}
 use Rattle.std.specs.List.{flat_map, list_any}
 use Rattle.fwd_modes.specs.declared.origin.Origin.{Origin}
-use Rattle.fwd_session.specs.Evidence.{Evidence}
+use Rattle.fwd_session.specs.ServerAcks.{ServerAck}
 use Rattle.fwd_book.specs.History.{Entered, is_origin, is_of, request_at, is_settled}
 use Rattle.fwd_book.specs.Receipts.{Receipt, receipt_of, receipt_if, once, receipts}
 use Rattle.fwd_book.specs.Live.{LiveBook, settled_if, live_is_settled, live_is_due, live_due, AreApart}
@@ -75,13 +75,13 @@ flat-others f o (x ∷ xs) own none = by (is_origin o x) refl none (flat-others 
     by false e n more = (λ i. empty-left (f x) (flat_map f rest) n i ++ flat_map f xs) ∙ more (empty-right (f x) (flat_map f rest) n)
 
 -- a request that is not settled has no receipt
-not-given : (settled : List Evidence) (k : Option Entered) → settled_if settled k ≡ false
+not-given : (settled : List ServerAck) (k : Option Entered) → settled_if settled k ≡ false
     → receipt_if settled k ≡ []
 not-given settled None e = refl
 not-given settled (Some q) e = ap (λ a. cond a (receipt_of settled q ∷ []) []) e
 
 -- one that has none is not settled
-not-settled : (settled : List Evidence) (k : Option Entered) → receipt_if settled k ≡ []
+not-settled : (settled : List ServerAck) (k : Option Entered) → receipt_if settled k ≡ []
     → settled_if settled k ≡ false
 not-settled settled None e = refl
 not-settled settled (Some q) e = by (is_settled settled q) e

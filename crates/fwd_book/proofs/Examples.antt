@@ -1,7 +1,7 @@
 -- The definitions at work on a request that two chunks share.
 use Rattle.std.proofs.Common.{◌≡◌, [], ◌∷◌, List, ℕ, Some, None, refl}
 use Rattle.fwd_modes.specs.declared.origin.Origin.{Origin}
-use Rattle.fwd_session.specs.Evidence.{Evidence}
+use Rattle.fwd_session.specs.ServerAcks.{ServerAck}
 use Rattle.fwd_book.specs.History.{Entered, BookHistory, opening, enters, settles, leaves, tells, forgets, untold}
 use Rattle.fwd_book.specs.Receipts.{receipts}
 use Rattle.fwd_book.specs.Live.{live_book, live_opening}
@@ -31,10 +31,10 @@ next_one = record {
   spans = record { number = 2; from = 1; count = 1 } ∷ [];
 }
 
-abbrev chunk_one : Evidence
+abbrev chunk_one : ServerAck
 chunk_one = record { number = 1; tag = 97 ∷ []; entries = entry 1 ∷ entry 2 ∷ []; server = 0; reply = [] }
 
-abbrev chunk_two : Evidence
+abbrev chunk_two : ServerAck
 chunk_two = record { number = 2; tag = 97 ∷ []; entries = entry 3 ∷ entry 4 ∷ []; server = 0; reply = [] }
 
 abbrev both : BookHistory

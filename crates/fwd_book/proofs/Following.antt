@@ -10,7 +10,7 @@ use Rattle.std.proofs.lemmas.List.Folds.{find-append}
 use Rattle.std.proofs.lemmas.Grind.{flat_map-append}
 use Rattle.fwd_modes.specs.declared.origin.Origin.{Origin}
 use Rattle.fwd_chunks.specs.declared.span.Span.{Span}
-use Rattle.fwd_session.specs.Evidence.{Evidence}
+use Rattle.fwd_session.specs.ServerAcks.{ServerAck}
 use Rattle.fwd_book.specs.History.{BookSetting, Entered, Fate, Untold, Told, Forgotten, Admission, BookHistory, opening, is_untold, untold, is_among, is_origin, request_at, evidence_of, has_run, is_settled, is_fresh, enters, settles, becomes, is_owed, leaves, tells, forgets, CanBeTold, owed, is_of, is_owed_to, is_due, due, tells_due, forgets_of, owed_of}
 use Rattle.fwd_book.specs.Receipts.{part_of, parts_of, receipt_if, once, receipts}
 use Rattle.fwd_book.specs.Live.{found_under, found_for, evidence_for, live_book, live_opening, live_enters, live_settles, live_drops, live_leaves, live_owed, live_is_due, live_due, live_tells_due, live_forgets_of, live_owed_of}
@@ -54,14 +54,14 @@ untold-enters b q =
     last (a ∷ xs) = ap (λ qs. a.request ∷ qs) (last xs)
 
 -- where none was acknowledged, nothing is found under runs
-pub none-found : (spans : List Span) (settled : List Evidence)
+pub none-found : (spans : List Span) (settled : List ServerAck)
     → list_any (λ e. list_any (λ s. s.number == e.number) spans) settled ≡ false
     → found_under (evidence_of settled) spans ≡ []
 none-found [] settled fresh = refl
 none-found (s ∷ spans) settled fresh =
     ap (λ o. option_to_list o ++ found_under (evidence_of settled) spans) (first settled fresh) ∙ none-found spans settled (others settled fresh)
   where
-    first : (es : List Evidence)
+    first : (es : List ServerAck)
         → list_any (λ e. list_any (λ t. t.number == e.number) (s ∷ spans)) es ≡ false
         → evidence_of es s.number ≡ None
     first [] none = refl
@@ -71,7 +71,7 @@ none-found (s ∷ spans) settled fresh =
         ap (λ k. cond k (Some e) (evidence_of es s.number)) (turned e.number s.number not_s)
         ∙ first es (neither_right (list_any (λ t. t.number == e.number) (s ∷ spans)) (list_any (λ d. list_any (λ t. t.number == d.number) (s ∷ spans)) es) none)
 
-    others : (es : List Evidence)
+    others : (es : List ServerAck)
         → list_any (λ e. list_any (λ t. t.number == e.number) (s ∷ spans)) es ≡ false
         → list_any (λ e. list_any (λ t. t.number == e.number) spans) es ≡ false
     others [] none = refl
@@ -80,7 +80,7 @@ none-found (s ∷ spans) settled fresh =
         let more = neither_right (list_any (λ t. t.number == e.number) (s ∷ spans)) (list_any (λ d. list_any (λ t. t.number == d.number) (s ∷ spans)) es) none in
         ap (λ k. k || list_any (λ d. list_any (λ t. t.number == d.number) spans) es) (neither_right (s.number == e.number) (list_any (λ t. t.number == e.number) spans) here) ∙ others es more
 
-pub enters-found : (f : ℕ → Option Evidence) (qs : List Entered) (q : Entered)
+pub enters-found : (f : ℕ → Option ServerAck) (qs : List Entered) (q : Entered)
     → found_under f q.spans ≡ [] → found_for f (qs ++ q ∷ []) ≡ found_for f qs
 enters-found f qs q none =
     flat_map-append (λ (r : Entered). found_under f r.spans) qs (q ∷ [])
@@ -102,14 +102,14 @@ follows-enters b q fresh =
 -- ---- a server acknowledged a chunk
 
 -- what was acknowledged under a request's number is found in what is kept, and what comes behind it
-pub kept-then : (f : ℕ → Option Evidence) (qs : List Entered) (e : Evidence) (n : ℕ) → IsNumbered f
+pub kept-then : (f : ℕ → Option ServerAck) (qs : List Entered) (e : ServerAck) (n : ℕ) → IsNumbered f
     → list_any (has_run n) qs ≡ true
     → evidence_of (found_for f qs ++ e ∷ []) n ≡ option_or (f n) (evidence_of (e ∷ []) n)
 kept-then f qs e n numbers used =
     find-append (λ x. x.number == n) (found_for f qs) (e ∷ [])
     ∙ ap (λ o. option_or o (evidence_of (e ∷ []) n)) (for-found f qs n numbers used)
 
-pub follows-settles : (b : BookHistory) (e : Evidence)
+pub follows-settles : (b : BookHistory) (e : ServerAck)
     → live_book (settles b e) ≡ live_settles (live_book b) e
 unfolding live_book
 follows-settles b e =
@@ -161,7 +161,7 @@ untold-leaves fate b test gone left same = each b.admissions
         ∙ sym (ap (filter stays) (push_map (λ x. x.request) (is_untold a.fate) a (filter (λ x. is_untold x.fate) xs)) ∙ push_filter stays (is_untold a.fate) a.request (map (λ x. x.request) (filter (λ x. is_untold x.fate) xs)))
 
 -- what leaves takes nothing from what is found for the others
-pub left-found : (f : ℕ → Option Evidence) (qs : List Entered) (stays : Entered → Bool)
+pub left-found : (f : ℕ → Option ServerAck) (qs : List Entered) (stays : Entered → Bool)
     → IsNumbered f
     → found_for f (filter stays qs) ≡ evidence_for (filter stays qs) (found_for f qs)
 left-found f qs stays numbers =
@@ -283,7 +283,7 @@ any-found p r (y ∷ xs) x found is = by (p y) (r y) refl found (any-found p r x
     by false false f e more = more e is
 
 -- where what was acknowledged under the runs' numbers is alike, so are the parts
-parts-alike : (xs ys : List Evidence) (spans : List Span)
+parts-alike : (xs ys : List ServerAck) (spans : List Span)
     → ((n : ℕ) → list_any (λ s. s.number == n) spans ≡ true → evidence_of xs n ≡ evidence_of ys n)
     → (parts_of xs spans ≡ parts_of ys spans) ×
     (list_all (λ s. is_some (evidence_of xs s.number)) spans
@@ -305,7 +305,7 @@ follows-receipts b origins = λ i. flat_map (λ origin. one origin i) (once orig
     qs : List Entered
     qs = untold b
 
-    kept : List Evidence
+    kept : List ServerAck
     kept = evidence_for qs b.settled
 
     by : (origin : Origin) (o : Option Entered) → request_at qs origin ≡ o

@@ -6,28 +6,28 @@ use Rattle.std.specs.List.{list_any}
 use Rattle.std.proofs.lemmas.Bool.{eqb-true, eq-eqb}
 use Rattle.std.proofs.lemmas.List.Folds.{find-append}
 use Rattle.fwd_chunks.specs.declared.span.Span.{Span}
-use Rattle.fwd_session.specs.Evidence.{Evidence}
+use Rattle.fwd_session.specs.ServerAcks.{ServerAck}
 use Rattle.fwd_book.specs.History.{Entered, evidence_of, has_run}
 use Rattle.fwd_book.specs.Live.{found_under, found_for}
 use Rattle.fwd_book.proofs.Facts.{apart, none_some, neither_left, neither_right, true-or, or-true}
 use Rattle.std.proofs.lemmas.Option.{same_Some}
 
 -- what is found under a number has it
-abbrev pub IsNumbered : (ℕ → Option Evidence) → Type 0
-IsNumbered found = (n : ℕ) (e : Evidence) → found n ≡ Some e → e.number ≡ n
+abbrev pub IsNumbered : (ℕ → Option ServerAck) → Type 0
+IsNumbered found = (n : ℕ) (e : ServerAck) → found n ≡ Some e → e.number ≡ n
 
-pub numbered : (settled : List Evidence) → IsNumbered (evidence_of settled)
+pub numbered : (settled : List ServerAck) → IsNumbered (evidence_of settled)
 numbered [] n e found = absurd (none_some found)
 numbered (d ∷ settled) n e found = by (d.number == n) refl found (numbered settled n e)
   where
     by : (a : Bool) → (d.number == n) ≡ a → cond a (Some d) (evidence_of settled n) ≡ Some e
         → (evidence_of settled n ≡ Some e → e.number ≡ n) → e.number ≡ n
-    by true same f more = sym (ap (λ (x : Evidence). x.number) (same_Some _ _ f)) ∙ eqb-true d.number n same
+    by true same f more = sym (ap (λ (x : ServerAck). x.number) (same_Some _ _ f)) ∙ eqb-true d.number n same
     by false same f more = more f
 
 -- ---- where two find alike under numbers that are there, what is found is alike
 
-pub under-alike : (f g : ℕ → Option Evidence) (spans : List Span)
+pub under-alike : (f g : ℕ → Option ServerAck) (spans : List Span)
     → ((n : ℕ) → list_any (λ s. s.number == n) spans ≡ true → f n ≡ g n)
     → found_under f spans ≡ found_under g spans
 under-alike f g [] same = refl
@@ -36,7 +36,7 @@ under-alike f g (s ∷ spans) same =
     let more = under-alike f g spans (λ n there. same n (or-true (s.number == n) (list_any (λ t. t.number == n) spans) there)) in
     λ i. option_to_list (here i) ++ more i
 
-pub for-alike : (f g : ℕ → Option Evidence) (qs : List Entered)
+pub for-alike : (f g : ℕ → Option ServerAck) (qs : List Entered)
     → ((n : ℕ) → list_any (has_run n) qs ≡ true → f n ≡ g n)
     → found_for f qs ≡ found_for g qs
 for-alike f g [] same = refl
@@ -48,7 +48,7 @@ for-alike f g (q ∷ qs) same =
 -- ---- what is looked for by its number in what is found
 
 -- nothing is found where nothing has the number
-pub under-none : (f : ℕ → Option Evidence) (spans : List Span) (n : ℕ) → IsNumbered f
+pub under-none : (f : ℕ → Option ServerAck) (spans : List Span) (n : ℕ) → IsNumbered f
     → list_any (λ s. s.number == n) spans ≡ false
     → evidence_of (found_under f spans) n ≡ None
 under-none f [] n numbers none = refl
@@ -57,10 +57,10 @@ under-none f (s ∷ spans) n numbers none =
     ∙ ap (λ o. option_or o (evidence_of (found_under f spans) n)) (first (f s.number) refl)
     ∙ under-none f spans n numbers (neither_right (s.number == n) (list_any (λ t. t.number == n) spans) none)
   where
-    other : (e : Evidence) → f s.number ≡ Some e → (e.number == n) ≡ false
+    other : (e : ServerAck) → f s.number ≡ Some e → (e.number == n) ≡ false
     other e found = ap (λ k. k == n) (numbers s.number e found) ∙ neither_left (s.number == n) (list_any (λ t. t.number == n) spans) none
 
-    first : (o : Option Evidence) → f s.number ≡ o
+    first : (o : Option ServerAck) → f s.number ≡ o
         → find (λ e. e.number == n) (option_to_list o) ≡ None
     first None found = refl
     first (Some e) found = ap (λ k. cond k (Some e) None) (other e found)
@@ -70,11 +70,11 @@ or_same None = refl
 or_same (Some x) = refl
 
 -- a run's own
-pub own-found : (f : ℕ → Option Evidence) (n : ℕ) → IsNumbered f
+pub own-found : (f : ℕ → Option ServerAck) (n : ℕ) → IsNumbered f
     → evidence_of (option_to_list (f n)) n ≡ f n
 own-found f n numbers = by (f n) refl
   where
-    by : (o : Option Evidence) → f n ≡ o → evidence_of (option_to_list o) n ≡ o
+    by : (o : Option ServerAck) → f n ≡ o → evidence_of (option_to_list o) n ≡ o
     by None found = refl
     by (Some e) found = ap (λ k. cond k (Some e) None) (eq-eqb e.number n (numbers n e found))
 
@@ -83,7 +83,7 @@ or_none None = refl
 or_none (Some x) = refl
 
 -- where a run has the number, what is found under it is found
-pub under-found : (f : ℕ → Option Evidence) (spans : List Span) (n : ℕ) → IsNumbered f
+pub under-found : (f : ℕ → Option ServerAck) (spans : List Span) (n : ℕ) → IsNumbered f
     → list_any (λ s. s.number == n) spans ≡ true
     → evidence_of (found_under f spans) n ≡ f n
 under-found f [] n numbers some = absurd (apart some)
@@ -91,7 +91,7 @@ under-found f (s ∷ spans) n numbers some =
     find-append (λ e. e.number == n) (option_to_list (f s.number)) (found_under f spans)
     ∙ by (s.number == n) (list_any (λ t. t.number == n) spans) refl refl some (under-found f spans n numbers)
   where
-    rest : Option Evidence
+    rest : Option ServerAck
     rest = evidence_of (found_under f spans) n
 
     both : (a : Bool) → list_any (λ t. t.number == n) spans ≡ a
@@ -103,10 +103,10 @@ under-found f (s ∷ spans) n numbers some =
     join (inl e) = ap (option_or (f n)) e ∙ or_same (f n)
     join (inr e) = ap (option_or (f n)) e ∙ or_none (f n)
 
-    other : (e : Evidence) → f s.number ≡ Some e → (s.number == n) ≡ false → (e.number == n) ≡ false
+    other : (e : ServerAck) → f s.number ≡ Some e → (s.number == n) ≡ false → (e.number == n) ≡ false
     other e found not_n = ap (λ k. k == n) (numbers s.number e found) ∙ not_n
 
-    first : (o : Option Evidence) → f s.number ≡ o → (s.number == n) ≡ false
+    first : (o : Option ServerAck) → f s.number ≡ o → (s.number == n) ≡ false
         → find (λ e. e.number == n) (option_to_list o) ≡ None
     first None found not_n = refl
     first (Some e) found not_n = ap (λ k. cond k (Some e) None) (other e found not_n)
@@ -122,7 +122,7 @@ under-found f (s ∷ spans) n numbers some =
     by false true same there is more = ap (λ o. option_or o rest) (first (f s.number) refl same) ∙ more there
     by false false same there is more = absurd (apart is)
 
-pub for-none : (f : ℕ → Option Evidence) (qs : List Entered) (n : ℕ) → IsNumbered f
+pub for-none : (f : ℕ → Option ServerAck) (qs : List Entered) (n : ℕ) → IsNumbered f
     → list_any (has_run n) qs ≡ false → evidence_of (found_for f qs) n ≡ None
 for-none f [] n numbers none = refl
 for-none f (q ∷ qs) n numbers none =
@@ -131,14 +131,14 @@ for-none f (q ∷ qs) n numbers none =
     ∙ for-none f qs n numbers (neither_right (has_run n q) (list_any (has_run n) qs) none)
 
 -- where a request has the number, what is found under it is found
-pub for-found : (f : ℕ → Option Evidence) (qs : List Entered) (n : ℕ) → IsNumbered f
+pub for-found : (f : ℕ → Option ServerAck) (qs : List Entered) (n : ℕ) → IsNumbered f
     → list_any (has_run n) qs ≡ true → evidence_of (found_for f qs) n ≡ f n
 for-found f [] n numbers some = absurd (apart some)
 for-found f (q ∷ qs) n numbers some =
     find-append (λ e. e.number == n) (found_under f q.spans) (found_for f qs)
     ∙ by (has_run n q) (list_any (has_run n) qs) refl refl some (for-found f qs n numbers)
   where
-    rest : Option Evidence
+    rest : Option ServerAck
     rest = evidence_of (found_for f qs) n
 
     join : (b : Bool) → list_any (has_run n) qs ≡ b → (list_any (has_run n) qs ≡ true → rest ≡ f n)
@@ -156,7 +156,7 @@ for-found f (q ∷ qs) n numbers some =
 -- ---- where what is found comes from
 
 -- it is found under the number of a run
-pub record Comes (f : ℕ → Option Evidence) (qs : List Entered) (e : Evidence) : Type 0 where
+pub record Comes (f : ℕ → Option ServerAck) (qs : List Entered) (e : ServerAck) : Type 0 where
   pub number : ℕ
   pub used : list_any (has_run number) qs ≡ true
   pub found : f number ≡ Some e
@@ -172,17 +172,17 @@ in_both (y ∷ xs) ys (suc i) x e = by (in_both xs ys i x e)
     by (inl at) = inl (suc at.0, at.1)
     by (inr at) = inr at
 
-record Under (f : ℕ → Option Evidence) (spans : List Span) (e : Evidence) : Type 0 where
+record Under (f : ℕ → Option ServerAck) (spans : List Span) (e : ServerAck) : Type 0 where
   pub number : ℕ
   pub used : list_any (λ s. s.number == number) spans ≡ true
   pub found : f number ≡ Some e
 
-comes_under : (f : ℕ → Option Evidence) (spans : List Span) (i : ℕ) (e : Evidence)
+comes_under : (f : ℕ → Option ServerAck) (spans : List Span) (i : ℕ) (e : ServerAck)
     → slice_get (found_under f spans) i ≡ Some e → Under f spans e
 comes_under f [] i e here = absurd (none_some here)
 comes_under f (s ∷ spans) i e here = by (in_both (option_to_list (f s.number)) (found_under f spans) i e here) (comes_under f spans)
   where
-    one : (o : Option Evidence) (j : ℕ) → f s.number ≡ o → slice_get (option_to_list o) j ≡ Some e
+    one : (o : Option ServerAck) (j : ℕ) → f s.number ≡ o → slice_get (option_to_list o) j ≡ Some e
         → f s.number ≡ Some e
     one None j found at = absurd (none_some at)
     one (Some d) zero found at = found ∙ at
@@ -190,7 +190,7 @@ comes_under f (s ∷ spans) i e here = by (in_both (option_to_list (f s.number))
 
     by : ((j : ℕ) × (slice_get (option_to_list (f s.number)) j ≡ Some e)) ⊎
         ((j : ℕ) × (slice_get (found_under f spans) j ≡ Some e))
-        → ((j : ℕ) (d : Evidence) → slice_get (found_under f spans) j ≡ Some d → Under f spans d)
+        → ((j : ℕ) (d : ServerAck) → slice_get (found_under f spans) j ≡ Some d → Under f spans d)
         → Under f (s ∷ spans) e
     by (inl at) more = record {
       number = s.number;
@@ -203,14 +203,14 @@ comes_under f (s ∷ spans) i e here = by (in_both (option_to_list (f s.number))
       found = u.found;
     }
 
-pub comes : (f : ℕ → Option Evidence) (qs : List Entered) (i : ℕ) (e : Evidence)
+pub comes : (f : ℕ → Option ServerAck) (qs : List Entered) (i : ℕ) (e : ServerAck)
     → slice_get (found_for f qs) i ≡ Some e → Comes f qs e
 comes f [] i e here = absurd (none_some here)
 comes f (q ∷ qs) i e here = by (in_both (found_under f q.spans) (found_for f qs) i e here) (comes f qs)
   where
     by : ((j : ℕ) × (slice_get (found_under f q.spans) j ≡ Some e)) ⊎
         ((j : ℕ) × (slice_get (found_for f qs) j ≡ Some e))
-        → ((j : ℕ) (d : Evidence) → slice_get (found_for f qs) j ≡ Some d → Comes f qs d)
+        → ((j : ℕ) (d : ServerAck) → slice_get (found_for f qs) j ≡ Some d → Comes f qs d)
         → Comes f (q ∷ qs) e
     by (inl at) more = let u = comes_under f q.spans at.0 e at.1 in record {
       number = u.number;
@@ -224,7 +224,7 @@ comes f (q ∷ qs) i e here = by (in_both (found_under f q.spans) (found_for f q
     }
 
 -- what is found by its number stands in the list
-pub found_there : (settled : List Evidence) (n : ℕ) (e : Evidence) → evidence_of settled n ≡ Some e
+pub found_there : (settled : List ServerAck) (n : ℕ) (e : ServerAck) → evidence_of settled n ≡ Some e
     → (i : ℕ) × (slice_get settled i ≡ Some e)
 found_there [] n e found = absurd (none_some found)
 found_there (d ∷ settled) n e found = by (d.number == n) found (found_there settled n e)

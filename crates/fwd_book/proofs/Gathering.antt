@@ -4,7 +4,7 @@ use Rattle.std.specs.Prelude.{not, filter, ◌&&◌, ◌||◌, ◌==◌, nat_lt}
 use Rattle.std.specs.List.{flat_map}
 use Rattle.std.proofs.lemmas.Bool.{eqb-true, ltb-true, lt-ltb}
 use Rattle.fwd_modes.specs.declared.origin.Origin.{Origin}
-use Rattle.fwd_session.specs.Evidence.{Evidence}
+use Rattle.fwd_session.specs.ServerAcks.{ServerAck}
 use Rattle.fwd_book.specs.History.{Entered, is_origin, is_settled, request_at}
 use Rattle.fwd_book.specs.Receipts.{once, receipt_of, receipt_if}
 use Rattle.fwd_book.specs.Gathering.{is_behind, stands_behind, rise_behind}
@@ -97,7 +97,7 @@ none-left (x ∷ xs) (suc i) past = none-left xs i (omega (arith, past))
 
 -- ---- the receipt of a request
 
-pub given-one : (settled : List Evidence) (qs : List Entered) (o : Origin) (q : Entered)
+pub given-one : (settled : List ServerAck) (qs : List Entered) (o : Origin) (q : Entered)
     → request_at qs o ≡ Some q → is_settled settled q ≡ true
     → receipt_if settled (request_at qs o) ≡ receipt_of settled q ∷ []
 given-one settled qs o q is all = ap (receipt_if settled) is ∙ ap (λ a. cond a (receipt_of settled q ∷ []) []) all

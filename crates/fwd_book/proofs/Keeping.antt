@@ -9,12 +9,12 @@ use Rattle.std.proofs.lemmas.List.Elements.{filter-append}
 use Rattle.fwd_modes.specs.declared.origin.Origin.{Origin}
 use Rattle.fwd_chunks.specs.declared.span.Span.{Span}
 use Rattle.fwd_modes.specs.Requests.{Request}
-use Rattle.fwd_session.specs.Evidence.{Evidence}
+use Rattle.fwd_session.specs.ServerAcks.{ServerAck}
 use Rattle.fwd_chunks.specs.Spans.{AreCutBy}
 use Rattle.fwd_book.specs.History.{BookSetting, Entered, is_origin, is_among, request_at, evidence_of, is_settled, has_run, are_fresh}
 use Rattle.fwd_book.specs.Receipts.{part_of, parts_of, once}
 use Rattle.fwd_book.specs.Live.{LiveBook, found_under, found_for, evidence_for, live_left, live_leaves, AreApart}
-use Rattle.fwd_book.specs.Notes.{Note, note_at, uses_in, found_in, found_at, used_more, used_less, put_in, uses_of, AreOf, HasRoom, live_of}
+use Rattle.fwd_book.specs.ChunkRefs.{ChunkRef, note_at, uses_in, found_in, found_at, used_more, used_less, put_in, uses_of, AreOf, HasRoom, live_of}
 use Rattle.fwd_book.proofs.Facts.{apart, none_some, is_not, or-false}
 use Rattle.fwd_book.proofs.Found.{for-alike, for-found, for-none, under-alike, numbered}
 use Rattle.fwd_book.proofs.Slotting.{any_none, find_none, filter_none, same_key}
@@ -76,12 +76,12 @@ room-more (Some r) room places numbers = (let here = room.0 in omega (arith, her
 
 -- ---- the notes of requests
 
-module _ (notes : List (ℕ × Note)) (qs : List Entered) (of : AreOf notes qs) where
+module _ (notes : List (ℕ × ChunkRef)) (qs : List Entered) (of : AreOf notes qs) where
   -- what is found by the notes is found in what the book shows
   pub shown-found : (n : ℕ) → evidence_of (found_for (found_at notes) qs) n ≡ found_at notes n
   shown-found n = by (list_any (has_run n) qs) refl
     where
-      unused : (o : Option Note) → note_at n notes ≡ o → list_any (has_run n) qs ≡ false
+      unused : (o : Option ChunkRef) → note_at n notes ≡ o → list_any (has_run n) qs ≡ false
           → found_in o ≡ None
       unused None is none = refl
       unused (Some note) is none =
@@ -96,10 +96,10 @@ module _ (notes : List (ℕ × Note)) (qs : List Entered) (of : AreOf notes qs) 
 
   -- a number that some request has is noted
   pub used-noted : (n : ℕ) → list_any (has_run n) qs ≡ true
-      → (note : Note) × (note_at n notes ≡ Some note)
+      → (note : ChunkRef) × (note_at n notes ≡ Some note)
   used-noted n some = by (note_at n notes) refl
     where
-      by : (o : Option Note) → note_at n notes ≡ o → (note : Note) × (note_at n notes ≡ Some note)
+      by : (o : Option ChunkRef) → note_at n notes ≡ o → (note : ChunkRef) × (note_at n notes ≡ Some note)
       by None is =
           let uses : 0 ≡ length (filter (has_run n) qs) = ap uses_in (sym is) ∙ of.uses n in
           let many : 0 < length (filter (has_run n) qs) = some-many (has_run n) qs some in
@@ -108,25 +108,25 @@ module _ (notes : List (ℕ × Note)) (qs : List Entered) (of : AreOf notes qs) 
 
 -- ---- a chunk is acknowledged
 
-module _ (notes new : List (ℕ × Note)) (qs : List Entered) (e : Evidence) (of : AreOf notes qs)
+module _ (notes new : List (ℕ × ChunkRef)) (qs : List Entered) (e : ServerAck) (of : AreOf notes qs)
     (put : (n : ℕ) → note_at n new ≡ cond (e.number == n) (put_in e (note_at e.number notes)) (note_at n notes)) where
-  put-uses : (o : Option Note) → uses_in (put_in e o) ≡ uses_in o
+  put-uses : (o : Option ChunkRef) → uses_in (put_in e o) ≡ uses_in o
   put-uses None = refl
   put-uses (Some note) = refl
 
-  put-used : (o : Option Note) (note : Note) → put_in e o ≡ Some note
-      → (m : Note) × (o ≡ Some m) × (note.uses ≡ m.uses)
+  put-used : (o : Option ChunkRef) (note : ChunkRef) → put_in e o ≡ Some note
+      → (m : ChunkRef) × (o ≡ Some m) × (note.uses ≡ m.uses)
   put-used None note is = absurd (none_some is)
-  put-used (Some m) note is = (m, refl, ap (λ (k : Note). k.uses) (sym (same_Some _ _ is)))
+  put-used (Some m) note is = (m, refl, ap (λ (k : ChunkRef). k.uses) (sym (same_Some _ _ is)))
 
-  put-found : (o : Option Note) (d : Evidence) → found_in (put_in e o) ≡ Some d
+  put-found : (o : Option ChunkRef) (d : ServerAck) → found_in (put_in e o) ≡ Some d
       → (found_in o ≡ Some d → d.number ≡ e.number) → d.number ≡ e.number
   put-found None d is more = absurd (none_some is)
   put-found (Some m) d is more = by m.found is more
     where
-      by : (o : Option Evidence) → (if is_some o then o else Some e) ≡ Some d
+      by : (o : Option ServerAck) → (if is_some o then o else Some e) ≡ Some d
           → (o ≡ Some d → d.number ≡ e.number) → d.number ≡ e.number
-      by None f g = ap (λ (x : Evidence). x.number) (sym (same_Some _ _ f))
+      by None f g = ap (λ (x : ServerAck). x.number) (sym (same_Some _ _ f))
       by (Some x) f g = g f
 
   pub put-of : AreOf new qs
@@ -143,7 +143,7 @@ module _ (notes new : List (ℕ × Note)) (qs : List Entered) (e : Evidence) (of
       uses n false same =
           ap uses_in (put n ∙ ap (λ a. cond a (put_in e (note_at e.number notes)) (note_at n notes)) same) ∙ of.uses n
 
-      used : (n : ℕ) (note : Note) (a : Bool) → (e.number == n) ≡ a
+      used : (n : ℕ) (note : ChunkRef) (a : Bool) → (e.number == n) ≡ a
           → cond (e.number == n) (put_in e (note_at e.number notes)) (note_at n notes) ≡ Some note
           → 0 < note.uses
       used n note true same is =
@@ -151,7 +151,7 @@ module _ (notes new : List (ℕ × Note)) (qs : List Entered) (e : Evidence) (of
           subst (λ k. 0 < k) (sym was.2) (of.used e.number was.0 was.1)
       used n note false same is = of.used n note (sym (ap (λ a. cond a (put_in e (note_at e.number notes)) (note_at n notes)) same) ∙ is)
 
-      numbers : (n : ℕ) (d : Evidence) (a : Bool) → (e.number == n) ≡ a
+      numbers : (n : ℕ) (d : ServerAck) (a : Bool) → (e.number == n) ≡ a
           → found_in
           (cond (e.number == n) (put_in e (note_at e.number notes)) (note_at n notes)) ≡ Some d
           → d.number ≡ n
@@ -164,14 +164,14 @@ module _ (notes new : List (ℕ × Note)) (qs : List Entered) (e : Evidence) (of
       (found_for (found_at notes) qs ++ e ∷ [])
   put-shown = for-alike (found_at new) (evidence_of (found_for (found_at notes) qs ++ e ∷ [])) qs (λ n some. alike n some ∙ sym (kept-then (found_at notes) qs e n of.numbers some))
     where
-      first : (note : Note) → found_in (put_in e (Some note)) ≡ option_or note.found (Some e)
+      first : (note : ChunkRef) → found_in (put_in e (Some note)) ≡ option_or note.found (Some e)
       first note = by note.found
         where
-          by : (o : Option Evidence) → (if is_some o then o else Some e) ≡ option_or o (Some e)
+          by : (o : Option ServerAck) → (if is_some o then o else Some e) ≡ option_or o (Some e)
           by None = refl
           by (Some x) = refl
 
-      or_none : (o : Option Evidence) → o ≡ option_or o None
+      or_none : (o : Option ServerAck) → o ≡ option_or o None
       or_none None = refl
       or_none (Some x) = refl
 
@@ -179,7 +179,7 @@ module _ (notes new : List (ℕ × Note)) (qs : List Entered) (e : Evidence) (of
           → found_at new n ≡ option_or (found_at notes n) (cond (e.number == n) (Some e) None)
       alike n some = by (e.number == n) refl (used-noted notes qs of n some)
         where
-          by : (a : Bool) → (e.number == n) ≡ a → (note : Note) × (note_at n notes ≡ Some note)
+          by : (a : Bool) → (e.number == n) ≡ a → (note : ChunkRef) × (note_at n notes ≡ Some note)
               → found_at new n ≡ option_or (found_at notes n) (cond (e.number == n) (Some e) None)
           by true same (note, is) =
               ap found_in (put n ∙ ap (λ a. cond a (put_in e (note_at e.number notes)) (note_at n notes)) same ∙ ap (λ k. put_in e (note_at k notes)) (eqb-true e.number n same) ∙ ap (put_in e) is)
@@ -192,13 +192,13 @@ module _ (notes new : List (ℕ × Note)) (qs : List Entered) (e : Evidence) (of
 
 -- ---- a request is entered
 
-module _ (notes new : List (ℕ × Note)) (qs : List Entered) (q : Entered) (of : AreOf notes qs)
+module _ (notes new : List (ℕ × ChunkRef)) (qs : List Entered) (q : Entered) (of : AreOf notes qs)
     (more : (n : ℕ) → note_at n new ≡ cond (list_any (λ s. s.number == n) q.spans) (Some (used_more (note_at n notes))) (note_at n notes)) where
-  more-uses : (o : Option Note) → uses_in (Some (used_more o)) ≡ uses_in o + 1
+  more-uses : (o : Option ChunkRef) → uses_in (Some (used_more o)) ≡ uses_in o + 1
   more-uses None = refl
   more-uses (Some note) = refl
 
-  found-more : (o : Option Note) → found_in (Some (used_more o)) ≡ found_in o
+  found-more : (o : Option ChunkRef) → found_in (Some (used_more o)) ≡ found_in o
   found-more None = refl
   found-more (Some note) = refl
 
@@ -232,10 +232,10 @@ module _ (notes new : List (ℕ × Note)) (qs : List Entered) (q : Entered) (of 
       uses n true = more-uses (note_at n notes) ∙ ap (λ k. k + 1) (of.uses n)
       uses n false = of.uses n ∙ omega arith
 
-      positive : (o : Option Note) (note : Note) → Some (used_more o) ≡ Some note → 0 < note.uses
+      positive : (o : Option ChunkRef) (note : ChunkRef) → Some (used_more o) ≡ Some note → 0 < note.uses
       positive o note is = let many : note.uses ≡ uses_in o + 1 = ap uses_in (sym is) ∙ more-uses o in omega (arith, many)
 
-      used : (n : ℕ) (note : Note) (a : Bool)
+      used : (n : ℕ) (note : ChunkRef) (a : Bool)
           → cond a (Some (used_more (note_at n notes))) (note_at n notes) ≡ Some note
           → 0 < note.uses
       used n note true is = positive (note_at n notes) note is
@@ -245,7 +245,7 @@ module _ (notes new : List (ℕ × Note)) (qs : List Entered) (q : Entered) (of 
   pub more-shown : are_fresh (found_for (found_at notes) qs) q.spans ≡ true
       → found_for (found_at new) (qs ++ q ∷ []) ≡ found_for (found_at notes) qs
   more-shown fresh =
-      let settled : List Evidence = found_for (found_at notes) qs in
+      let settled : List ServerAck = found_for (found_at notes) qs in
       let none : found_under (found_at notes) q.spans ≡ [] =
       under-alike (found_at notes) (evidence_of settled) q.spans (λ n some. sym (shown-found notes qs of n))
       ∙ none-found q.spans settled (is_not (list_any (λ e. has_run e.number q) settled) fresh) in
@@ -292,17 +292,17 @@ module _ (n : ℕ) (o : Origin) (q : Entered) where
           let rest = more is in
           omega (arith, one, two, rest)
 
-module _ (notes new : List (ℕ × Note)) (qs : List Entered) (o : Origin) (q : Entered) (of : AreOf notes qs)
+module _ (notes new : List (ℕ × ChunkRef)) (qs : List Entered) (o : Origin) (q : Entered) (of : AreOf notes qs)
     (alone : AreApart qs) (there : request_at qs o ≡ Some q)
     (less : (n : ℕ) → note_at n new ≡ cond (list_any (λ s. s.number == n) q.spans) (used_less (note_at n notes)) (note_at n notes)) where
   abbrev left : List Entered
   left = filter (λ r. not (is_origin o r.origin)) qs
 
-  less-some : (m : Note) (a : Bool) → nat_lt m.uses 2 ≡ a
+  less-some : (m : ChunkRef) (a : Bool) → nat_lt m.uses 2 ≡ a
       → used_less (Some m) ≡ cond a None (Some (record m { uses = m.uses - 1 }))
   less-some m a is = ap (λ b. cond b None (Some (record m { uses = m.uses - 1 }))) is
 
-  less-uses : (k : Option Note) → uses_in (used_less k) ≡ uses_in k - 1
+  less-uses : (k : Option ChunkRef) → uses_in (used_less k) ≡ uses_in k - 1
   less-uses None = omega arith
   less-uses (Some m) = by (nat_lt m.uses 2) refl
     where
@@ -310,7 +310,7 @@ module _ (notes new : List (ℕ × Note)) (qs : List Entered) (o : Origin) (q : 
       by true few = ap uses_in (less-some m true few) ∙ (let less_than = ltb-true m.uses 2 few in omega (arith, less_than))
       by false few = ap uses_in (less-some m false few)
 
-  less-used : (k : Option Note) (note : Note) → used_less k ≡ Some note → 0 < note.uses
+  less-used : (k : Option ChunkRef) (note : ChunkRef) → used_less k ≡ Some note → 0 < note.uses
   less-used None note is = absurd (none_some is)
   less-used (Some m) note is = by (nat_lt m.uses 2) refl
     where
@@ -321,7 +321,7 @@ module _ (notes new : List (ℕ × Note)) (qs : List Entered) (o : Origin) (q : 
           let same : m.uses - 1 ≡ note.uses = ap uses_in (sym (less-some m false few) ∙ is) in
           omega (arith, many, same)
 
-  less-found : (k : Option Note) (d : Evidence) → found_in (used_less k) ≡ Some d
+  less-found : (k : Option ChunkRef) (d : ServerAck) → found_in (used_less k) ≡ Some d
       → found_in k ≡ Some d
   less-found None d is = is
   less-found (Some m) d is = by (nat_lt m.uses 2) refl
@@ -342,12 +342,12 @@ module _ (notes new : List (ℕ × Note)) (qs : List Entered) (o : Origin) (q : 
       uses n true is = let one = less-uses (note_at n notes) in let all = of.uses n in omega (arith, one, all, is)
       uses n false is = let all = of.uses n in omega (arith, all, is)
 
-      used : (n : ℕ) (note : Note) (a : Bool)
+      used : (n : ℕ) (note : ChunkRef) (a : Bool)
           → cond a (used_less (note_at n notes)) (note_at n notes) ≡ Some note → 0 < note.uses
       used n note true is = less-used (note_at n notes) note is
       used n note false is = of.used n note is
 
-      numbers : (n : ℕ) (d : Evidence) (a : Bool)
+      numbers : (n : ℕ) (d : ServerAck) (a : Bool)
           → found_in (cond a (used_less (note_at n notes)) (note_at n notes)) ≡ Some d
           → d.number ≡ n
       numbers n d true is = of.numbers n d (less-found (note_at n notes) d is)
@@ -357,7 +357,7 @@ module _ (notes new : List (ℕ × Note)) (qs : List Entered) (o : Origin) (q : 
   less-shown = for-alike (found_at new) (evidence_of (found_for (found_at notes) qs)) left (λ n some. ap found_in (less n) ∙ alike n some (has_run n q) refl (used-noted notes qs of n (any-filter (λ r. not (is_origin o r.origin)) (has_run n) qs some)) ∙ sym (shown-found notes qs of n))
     where
       alike : (n : ℕ) → list_any (has_run n) left ≡ true → (a : Bool) → has_run n q ≡ a
-          → (m : Note) × (note_at n notes ≡ Some m)
+          → (m : ChunkRef) × (note_at n notes ≡ Some m)
           → found_in (cond a (used_less (note_at n notes)) (note_at n notes)) ≡ found_at notes n
       alike n some true has (m, is) =
           let many : 0 < uses_of n left = some-many (has_run n) left some in
@@ -376,13 +376,13 @@ among-one [] o = refl
 among-one (q ∷ qs) o = λ i. cond (not (or-false (is_origin o q.origin) i)) (q ∷ among-one qs o i) (among-one qs o i)
 
 -- where no request has the origin, nothing leaves
-pub none-leaves : (setting : BookSetting) (notes : List (ℕ × Note)) (qs : List Entered) (o : Origin)
+pub none-leaves : (setting : BookSetting) (notes : List (ℕ × ChunkRef)) (qs : List Entered) (o : Origin)
     → AreOf notes qs
     → request_at qs o ≡ None
     → live_of setting qs notes ≡ live_leaves (live_of setting qs notes) (o ∷ [])
 none-leaves setting notes qs o of none =
     let stays : qs ≡ filter (λ q. not (is_among (o ∷ []) q.origin)) qs = sym (among-one qs o ∙ filter_none (λ q. is_origin o q.origin) qs (any_none (λ q. is_origin o q.origin) qs none)) in
-    let settled : List Evidence = found_for (found_at notes) qs in
+    let settled : List ServerAck = found_for (found_at notes) qs in
     let same : settled ≡ evidence_for qs settled = for-alike (found_at notes) (evidence_of settled) qs (λ n some. sym (shown-found notes qs of n)) in
     λ i. record { setting = setting; requests = stays i; settled = (same ∙ ap (λ rs. evidence_for rs settled) stays) i }
 
@@ -493,12 +493,12 @@ owed-none (q ∷ qs) = owed-none qs
 
 -- ---- whether a request is settled
 
-pub settled-alike : (notes : List (ℕ × Note)) (qs : List Entered) (q : Entered) → AreOf notes qs
+pub settled-alike : (notes : List (ℕ × ChunkRef)) (qs : List Entered) (q : Entered) → AreOf notes qs
     → list_all (λ s. is_some (found_at notes s.number)) q.spans ≡ is_settled
     (found_for (found_at notes) qs) q
 settled-alike notes qs q of = sym (λ i. list_all (λ s. is_some (shown-found notes qs of s.number i)) q.spans)
 
-pub parts-alike-noted : (notes : List (ℕ × Note)) (qs : List Entered) (spans : List Span)
+pub parts-alike-noted : (notes : List (ℕ × ChunkRef)) (qs : List Entered) (spans : List Span)
     → AreOf notes qs
     → flat_map (λ s. part_of (found_at notes s.number) s) spans ≡ parts_of
     (found_for (found_at notes) qs) spans

@@ -3,7 +3,7 @@ use Rattle.std.proofs.Common.{◌≡◌, ℕ, Bool, true, false, cond, zero, suc
 use Rattle.std.specs.Prelude.{not, ◌||◌, ◌==◌, is_some, filter, option_map, option_and_then, unwrap_or, slice_get}
 use Rattle.std.specs.List.{list_any}
 use Rattle.std.proofs.lemmas.Bool.{eqb-true, eq-eqb}
-use Rattle.fwd_book.specs.declared.chains.Link.{Link}
+use Rattle.fwd_book.specs.declared.connection_index.Link.{Link}
 use Rattle.fwd_book.specs.Links.{is_the, last_of, link_in, with_later, with_earlier, AreOnce}
 use Rattle.fwd_book.proofs.Facts.{apart, none_some, neither_left, neither_right, turned}
 use Rattle.std.proofs.lemmas.Option.{same_Some}

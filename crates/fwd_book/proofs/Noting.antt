@@ -2,14 +2,14 @@
 use Rattle.std.proofs.Common.{arith, ◌≡◌, ◌≤◌, ◌-◌, ℕ, Bool, true, false, cond, Option, Some, None, List, Bor, refl, sym, ap, ◌∙◌}
 use Rattle.std.specs.Prelude.{is_some, option_map, option_copied, nat_lt, ◌==◌}
 use Rattle.std.proofs.lemmas.Bool.{eqb-true, le-ltb}
-use Rattle.fwd_session.specs.Evidence.{Evidence}
-use Rattle.fwd_book.specs.Notes.{Note, note_at, found_in, used_less, put_in}
+use Rattle.fwd_session.specs.ServerAcks.{ServerAck}
+use Rattle.fwd_book.specs.ChunkRefs.{ChunkRef, note_at, found_in, used_less, put_in}
 
 pub none-few : 2 ≤ 0 → ⊥
 none-few few = omega (arith, few)
 
 -- where two requests or more have a number, its note stays as one of them leaves
-pub less_of : (note : Note) → 2 ≤ note.uses
+pub less_of : (note : ChunkRef) → 2 ≤ note.uses
     → used_less (Some note) ≡ Some (record note { uses = note.uses - 1 })
 less_of note few = ap (λ k. cond k None (Some (record note { uses = note.uses - 1 }))) not_last
   where
@@ -17,12 +17,12 @@ less_of note few = ap (λ k. cond k None (Some (record note { uses = note.uses -
     not_last = le-ltb note.uses 2 few
 
 -- what is put where nothing was
-pub put_first : (e : Evidence) (note : Note) → is_some note.found ≡ false
+pub put_first : (e : ServerAck) (note : ChunkRef) → is_some note.found ≡ false
     → put_in e (Some note) ≡ Some (record note { found = Some e })
 put_first e note none = ap (λ k. Some (record note { found = cond k note.found (Some e) })) none
 
 -- what is put where no request has the number
-pub put_nowhere : (e : Evidence) (notes : List (ℕ × Note)) (n : ℕ) → note_at e.number notes ≡ None
+pub put_nowhere : (e : ServerAck) (notes : List (ℕ × ChunkRef)) (n : ℕ) → note_at e.number notes ≡ None
     → note_at n notes ≡ cond (e.number == n) (put_in e (note_at e.number notes)) (note_at n notes)
 put_nowhere e notes n none = by (e.number == n) refl
   where
@@ -32,12 +32,12 @@ put_nowhere e notes n none = by (e.number == n) refl
     by false same = refl
 
 -- what is put where something was
-pub put_again : (e : Evidence) (notes : List (ℕ × Note)) (n : ℕ)
+pub put_again : (e : ServerAck) (notes : List (ℕ × ChunkRef)) (n : ℕ)
     → is_some (found_in (note_at e.number notes)) ≡ true
     → note_at n notes ≡ cond (e.number == n) (put_in e (note_at e.number notes)) (note_at n notes)
 put_again e notes n some = by (e.number == n) refl
   where
-    stays : (o : Option Note) → is_some (found_in o) ≡ true → put_in e o ≡ o
+    stays : (o : Option ChunkRef) → is_some (found_in o) ≡ true → put_in e o ≡ o
     stays None is = refl
     stays (Some note) is = ap (λ k. Some (record note { found = cond k note.found (Some e) })) is
 

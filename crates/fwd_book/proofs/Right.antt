@@ -6,10 +6,10 @@ use Rattle.std.proofs.lemmas.Bool.{eqb-true, eq-eqb}
 use Rattle.std.proofs.lemmas.List.{take-append-drop}
 use Rattle.fwd_modes.specs.declared.origin.Origin.{Origin}
 use Rattle.fwd_chunks.specs.declared.span.Span.{Span}
-use Rattle.fwd_session.specs.Evidence.{Evidence}
+use Rattle.fwd_session.specs.ServerAcks.{ServerAck}
 use Rattle.fwd_chunks.specs.Spans.{AreCutBy, AreRising}
 use Rattle.fwd_book.specs.History.{Entered, is_origin, request_at, evidence_of, is_settled}
-use Rattle.fwd_book.specs.Receipts.{Part, Receipt, span_of, shown_by, part_of, parts_of, receipt_of, receipt_if, once, receipts, IsRightFor}
+use Rattle.fwd_book.specs.Receipts.{AckedRange, Receipt, span_of, shown_by, part_of, parts_of, receipt_of, receipt_if, once, receipts, IsRightFor}
 use Rattle.fwd_book.specs.Live.{LiveBook, HasItsRuns, IsSound}
 use Rattle.fwd_book.proofs.Facts.{origin-is, apart, none_some, true-or, or-true, both_left, both_right}
 use Rattle.std.proofs.lemmas.Option.{same_Some}
@@ -33,12 +33,12 @@ found_stands p (y ∷ xs) x found = by (p y) refl found (λ e. found_stands p xs
 -- ---- the parts of a request whose numbers are all acknowledged
 
 -- the parts are the runs, show the entries, and are of what was acknowledged
-pub record AreParts (settled : List Evidence) (spans : List Span) (own : List (List ℕ)) (parts : List Part) : Type 0 where
+pub record AreParts (settled : List ServerAck) (spans : List Span) (own : List (List ℕ)) (parts : List AckedRange) : Type 0 where
   pub spans_are : map span_of parts ≡ spans
-  pub numbers_are : map (λ (p : Part). p.evidence.number) parts ≡ map (λ (s : Span). s.number) spans
+  pub numbers_are : map (λ (p : AckedRange). p.evidence.number) parts ≡ map (λ (s : Span). s.number) spans
   pub shown_are : flat_map shown_by parts ≡ own
-  pub from : (i : ℕ) (p : Part) → slice_get parts i ≡ Some p → Stands (λ e. list_any (λ s. s.number == e.number) spans) settled p.evidence
-  pub fits : (i : ℕ) (p : Part) → slice_get parts i ≡ Some p
+  pub from : (i : ℕ) (p : AckedRange) → slice_get parts i ≡ Some p → Stands (λ e. list_any (λ s. s.number == e.number) spans) settled p.evidence
+  pub fits : (i : ℕ) (p : AckedRange) → slice_get parts i ≡ Some p
       → p.from + p.count ≤ length p.evidence.entries
 
 -- so many entries from a place on are there
@@ -75,11 +75,11 @@ taken-within n f xs ys some fits same =
         by (inl e) = inl e
         by (inr h) = inr (omega (arith, h))
 
-parts_are : (settled : List Evidence) (spans : List Span) (own : List (List ℕ))
+parts_are : (settled : List ServerAck) (spans : List Span) (own : List (List ℕ))
     → list_all (λ s. is_some (evidence_of settled s.number)) spans ≡ true
     → AreCutBy spans own
     →
-    ((j : ℕ) (e : Evidence) → slice_get settled j ≡ Some e
+    ((j : ℕ) (e : ServerAck) → slice_get settled j ≡ Some e
     → HasItsRuns e.number e.entries spans own)
     → AreParts settled spans own (parts_of settled spans)
 parts_are settled [] own all cut runs = record { spans_are = refl; numbers_are = refl; shown_are = sym cut; from = λ i p e. absurd (none_some e); fits = λ i p e. absurd (none_some e) }
@@ -87,7 +87,7 @@ parts_are settled (s ∷ spans) own all cut runs =
     by (evidence_of settled s.number) refl
     (parts_are settled spans (drop s.count own) (both_right (is_some (evidence_of settled s.number)) (list_all (λ t. is_some (evidence_of settled t.number)) spans) all) cut.2 (λ j e here. (runs j e here).1))
   where
-    by : (o : Option Evidence) → evidence_of settled s.number ≡ o
+    by : (o : Option ServerAck) → evidence_of settled s.number ≡ o
         → AreParts settled spans (drop s.count own) (parts_of settled spans)
         → AreParts settled (s ∷ spans) own (part_of o s ++ parts_of settled spans)
     by None none more = absurd (apart (sym (ap is_some none) ∙ both_left (is_some (evidence_of settled s.number)) (list_all (λ t. is_some (evidence_of settled t.number)) spans) all))
@@ -102,25 +102,25 @@ parts_are settled (s ∷ spans) own all cut runs =
           fits = λ i p here. fit e (taken-within s.count s.from e.entries own cut.0 cut.1 shown) more i p here;
         }
       where
-        fit : (e : Evidence) → s.from + s.count ≤ length e.entries
+        fit : (e : ServerAck) → s.from + s.count ≤ length e.entries
             → AreParts settled spans (drop s.count own) (parts_of settled spans)
-            → (i : ℕ) (p : Part)
+            → (i : ℕ) (p : AckedRange)
             → slice_get
             (record { evidence = e; from = s.from; count = s.count } ∷ parts_of settled spans) i
             ≡ Some p
             → p.from + p.count ≤ length p.evidence.entries
-        fit e own-fits more zero p same = subst (λ (k : Part). k.from + k.count ≤ length k.evidence.entries) (same_Some _ _ same) own-fits
+        fit e own-fits more zero p same = subst (λ (k : AckedRange). k.from + k.count ≤ length k.evidence.entries) (same_Some _ _ same) own-fits
         fit e own-fits more (suc i) p same = more.fits i p same
 
-        among : (e : Evidence) (place : ℕ) → slice_get settled place ≡ Some e
+        among : (e : ServerAck) (place : ℕ) → slice_get settled place ≡ Some e
             → list_any (λ t. t.number == e.number) (s ∷ spans) ≡ true
             → AreParts settled spans (drop s.count own) (parts_of settled spans)
-            → (i : ℕ) (p : Part)
+            → (i : ℕ) (p : AckedRange)
             → slice_get
             (record { evidence = e; from = s.from; count = s.count } ∷ parts_of settled spans) i
             ≡ Some p
             → Stands (λ x. list_any (λ t. t.number == x.number) (s ∷ spans)) settled p.evidence
-        among e place here is more zero p same = let one = ap (λ (k : Part). k.evidence) (same_Some _ _ same) in record { place = place; here = here ∙ ap Some one; passes = sym (ap (λ (x : Evidence). list_any (λ t. t.number == x.number) (s ∷ spans)) one) ∙ is }
+        among e place here is more zero p same = let one = ap (λ (k : AckedRange). k.evidence) (same_Some _ _ same) in record { place = place; here = here ∙ ap Some one; passes = sym (ap (λ (x : ServerAck). list_any (λ t. t.number == x.number) (s ∷ spans)) one) ∙ is }
         among e place here is more (suc i) p same = let st = more.from i p same in record { place = st.place; here = st.here; passes = or-true (s.number == p.evidence.number) (list_any (λ t. t.number == p.evidence.number) spans) st.passes }
 
 -- ---- what stands in a list of lists

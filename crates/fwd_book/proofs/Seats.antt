@@ -6,7 +6,7 @@ use Rattle.std.proofs.lemmas.Bool.{eqb-true, eqb-false}
 use Rattle.std.proofs.lemmas.List.Sums.{sum_by-cons}
 use Rattle.slab.specs.Slab.{Slab, get, slab_len, Updates, with_value}
 use Rattle.slab.proofs.SlabLemmas.{Updates-with_value}
-use Rattle.fwd_book.specs.declared.chains.Kept.{Kept}
+use Rattle.fwd_book.specs.declared.connection_index.Kept.{Kept}
 use Rattle.fwd_book.specs.Slots.{request_of}
 use Rattle.fwd_book.specs.Links.{leads_to, follows_on}
 use Rattle.fwd_book.proofs.Facts.{none_some}

@@ -8,7 +8,7 @@ use Rattle.std.proofs.lemmas.Bool.{eqb-true, eq-eqb}
 use Rattle.fwd_modes.specs.Acks.{ack_name}
 use Rattle.fwd_modes.specs.declared.origin.Origin.{Origin}
 use Rattle.fwd_chunks.specs.declared.span.Span.{Span}
-use Rattle.fwd_session.specs.Evidence.{Evidence}
+use Rattle.fwd_session.specs.ServerAcks.{ServerAck}
 use Rattle.fwd_chunks.specs.Spans.{AreCutBy, AreRising}
 use Rattle.fwd_book.specs.History.{BookSetting, Entered, is_origin, request_at, is_among, evidence_of, has_run, is_fresh, name_at}
 use Rattle.fwd_book.specs.Live.{LiveBook, evidence_for, live_opening, live_enters, live_settles, live_drops, live_leaves, HasItsRuns, AreApart, IsOf, IsSound}
@@ -124,17 +124,17 @@ sound-enters b q sound new cut rising fresh = record {
     by_rising i r (inl at) = sound.rising at.0 r at.1
     by_rising i r (inr at) = subst (λ x. AreRising (map (λ s. s.number) x.spans)) (only q r at.0 at.1) rising
 
-    by_of : (i j : ℕ) (r : Entered) (e : Evidence) → Where r → slice_get b.settled j ≡ Some e
+    by_of : (i j : ℕ) (r : Entered) (e : ServerAck) → Where r → slice_get b.settled j ≡ Some e
         → IsOf r e
     by_of i j r e (inl at) there = sound.of at.0 j r e at.1 there
     by_of i j r e (inr at) there =
-        let none = none_passes (λ (x : Evidence). has_run x.number q) b.settled j e (is_not (list_any (λ x. has_run x.number q) b.settled) fresh) there in
+        let none = none_passes (λ (x : ServerAck). has_run x.number q) b.settled j e (is_not (list_any (λ x. has_run x.number q) b.settled) fresh) there in
         subst (λ x. IsOf x e) (only q r at.0 at.1) (record {
           tag = λ has. absurd (apart (sym none ∙ has));
           runs = no_runs e.number e.entries q.spans q.entries none;
         })
 
-pub sound-settles : (b : LiveBook) (e : Evidence) → IsSound b
+pub sound-settles : (b : LiveBook) (e : ServerAck) → IsSound b
     → ack_name e.reply ≡ Some (name_at b.setting e.number)
     → ((i : ℕ) (q : Entered) → slice_get b.requests i ≡ Some q → IsOf q e)
     → IsSound (live_settles b e)
@@ -146,21 +146,21 @@ sound-settles b e sound names of = record {
   of = λ i j q d here there. by_of i q d here (where_from j d there);
 }
   where
-    Where : Evidence → Type 0
+    Where : ServerAck → Type 0
     Where d = ((j : ℕ) × (slice_get b.settled j ≡ Some d)) ⊎ ((j : ℕ) × (slice_get (e ∷ []) j ≡ Some d))
 
-    where_from : (j : ℕ) (d : Evidence)
+    where_from : (j : ℕ) (d : ServerAck)
         → slice_get (evidence_for b.requests (b.settled ++ e ∷ [])) j ≡ Some d → Where d
     where_from j d there =
         let from = comes (evidence_of (b.settled ++ e ∷ [])) b.requests j d there in
         let at = found_there (b.settled ++ e ∷ []) from.number d from.found in
         in_both b.settled (e ∷ []) at.0 d at.1
 
-    by_names : (d : Evidence) → Where d → ack_name d.reply ≡ Some (name_at b.setting d.number)
+    by_names : (d : ServerAck) → Where d → ack_name d.reply ≡ Some (name_at b.setting d.number)
     by_names d (inl at) = sound.names at.0 d at.1
     by_names d (inr at) = subst (λ x. ack_name x.reply ≡ Some (name_at b.setting x.number)) (only e d at.0 at.1) names
 
-    by_of : (i : ℕ) (q : Entered) (d : Evidence) → slice_get b.requests i ≡ Some q → Where d
+    by_of : (i : ℕ) (q : Entered) (d : ServerAck) → slice_get b.requests i ≡ Some q → Where d
         → IsOf q d
     by_of i q d here (inl at) = sound.of i at.0 q d here at.1
     by_of i q d here (inr at) = subst (λ x. IsOf q x) (only e d at.0 at.1) (of i q here)
@@ -178,7 +178,7 @@ sound-drops b gone sound = record {
         → (j : ℕ) × (slice_get b.requests j ≡ Some q)
     in_left i q here = filter-at (λ r. not (gone r)) b.requests i q here
 
-    in_kept : (j : ℕ) (e : Evidence)
+    in_kept : (j : ℕ) (e : ServerAck)
         → slice_get (evidence_for (filter (λ r. not (gone r)) b.requests) b.settled) j ≡ Some e
         → (k : ℕ) × (slice_get b.settled k ≡ Some e)
     in_kept j e there =

@@ -7,7 +7,7 @@ use Rattle.std.proofs.lemmas.Option.{slice_get-get_or, slice_get-map}
 use Rattle.std.proofs.Math.Seq.{take-suc}
 use Rattle.fwd_chunks.specs.declared.span.Span.{Span}
 use Rattle.fwd_chunks.specs.Spans.{AreRising}
-use Rattle.fwd_book.specs.Notes.{Note}
+use Rattle.fwd_book.specs.ChunkRefs.{ChunkRef}
 use Rattle.fwd_book.proofs.Facts.{none_some, or-false, or-true}
 use Rattle.fwd_book.proofs.Following.{any-last}
 
@@ -34,7 +34,7 @@ not_before (t ∷ spans) (suc i) s rising at =
     ap (λ a. a || list_any (λ r. r.number == s.number) (take i spans)) (smaller t.number s.number less) ∙ not_before spans i s tail at
 
 -- one run more
-pub stepped : (f : Option Note → Option Note) (old cur new : ℕ → Option Note) (spans : List Span)
+pub stepped : (f : Option ChunkRef → Option ChunkRef) (old cur new : ℕ → Option ChunkRef) (spans : List Span)
     (i : ℕ) (d : Span)
     → i < length spans → AreRising (map (λ s. s.number) spans)
     → ((n : ℕ) → cur n ≡ cond (list_any (λ s. s.number == n) (take i spans)) (f (old n)) (old n))
@@ -68,7 +68,7 @@ stepped f old cur new spans i d within rising before now n = by (s.number == n) 
         ∙ ap (λ a. cond a (f (old n)) (old n)) (sym (more ∙ ap (λ b. list_any (λ t. t.number == n) (take i spans) || b) same ∙ or-false (list_any (λ t. t.number == n) (take i spans))))
 
 -- the number of a run was not changed by those before it
-pub unchanged : (f : Option Note → Option Note) (old cur : ℕ → Option Note) (spans : List Span)
+pub unchanged : (f : Option ChunkRef → Option ChunkRef) (old cur : ℕ → Option ChunkRef) (spans : List Span)
     (i : ℕ) (d : Span)
     → i < length spans → AreRising (map (λ s. s.number) spans)
     → ((n : ℕ) → cur n ≡ cond (list_any (λ s. s.number == n) (take i spans)) (f (old n)) (old n))

@@ -2,7 +2,7 @@
 use Rattle.std.specs.Prelude.{◌==◌, ◌&&◌, ◌||◌, Bool, true, List, [], ◌∷◌, Option, None, Some, nat_lt}
 use Rattle.std.specs.List.{flat_map}
 use Rattle.fwd_modes.specs.declared.origin.Origin.{Origin}
-use Rattle.fwd_session.specs.Evidence.{Evidence}
+use Rattle.fwd_session.specs.ServerAcks.{ServerAck}
 use Rattle.fwd_book.specs.History.{Entered, request_at}
 use Rattle.fwd_book.specs.Receipts.{Receipt, receipt_if}
 
@@ -23,6 +23,6 @@ rise_behind before (origin ∷ origins) =
 
 -- the receipts of the requests of these origins whose entries are all acknowledged, one origin
 -- after the other
-abbrev pub receipts_at : List Evidence → List Entered → List Origin → List Receipt
+abbrev pub receipts_at : List ServerAck → List Entered → List Origin → List Receipt
 receipts_at settled qs origins =
     flat_map (λ origin. receipt_if settled (request_at qs origin)) origins

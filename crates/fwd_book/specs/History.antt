@@ -27,7 +27,7 @@ use Rattle.fwd_modes.specs.Requests.{Request}
 use Rattle.fwd_modes.specs.Frames.{chunk_name}
 use Rattle.fwd_modes.specs.declared.origin.Origin.{Origin}
 use Rattle.fwd_chunks.specs.declared.span.Span.{Span}
-use Rattle.fwd_session.specs.Evidence.{Evidence}
+use Rattle.fwd_session.specs.ServerAcks.{ServerAck}
 
 -- the run and the output that the names of its chunks tell
 pub record BookSetting : Type 0 where
@@ -73,7 +73,7 @@ pub record Admission : Type 0 where
 pub record BookHistory : Type 0 where
   pub setting : BookSetting
   pub admissions : List Admission
-  pub settled : List Evidence
+  pub settled : List ServerAck
 
 -- before any event
 abbrev pub opening : BookSetting → BookHistory
@@ -107,11 +107,11 @@ abbrev pub request_at : List Entered → Origin → Option Entered
 request_at qs origin = find (λ q. is_origin origin q.origin) qs
 
 -- what was acknowledged under a number: of several what came first
-abbrev pub evidence_of : List Evidence → ℕ → Option Evidence
+abbrev pub evidence_of : List ServerAck → ℕ → Option ServerAck
 evidence_of settled number = find (λ e. e.number == number) settled
 
 -- all entries of the request are acknowledged
-abbrev pub is_settled : List Evidence → Entered → Bool
+abbrev pub is_settled : List ServerAck → Entered → Bool
 is_settled settled q = list_all (λ s. is_some (evidence_of settled s.number)) q.spans
 
 -- some of the request's entries have the number
@@ -119,12 +119,12 @@ abbrev pub has_run : ℕ → Entered → Bool
 has_run number q = list_any (λ s. s.number == number) q.spans
 
 -- no number of these runs was acknowledged
-abbrev pub are_fresh : List Evidence → List Span → Bool
+abbrev pub are_fresh : List ServerAck → List Span → Bool
 are_fresh settled spans =
     not (list_any (λ e. list_any (λ s. s.number == e.number) spans) settled)
 
 -- no number of the request's entries was acknowledged, as is so of a request that comes
-abbrev pub is_fresh : List Evidence → Entered → Bool
+abbrev pub is_fresh : List ServerAck → Entered → Bool
 is_fresh settled q = are_fresh settled q.spans
 
 -- ---- what happens to it
@@ -134,7 +134,7 @@ abbrev pub enters : BookHistory → Entered → BookHistory
 enters b q = record b { admissions = b.admissions ++ record { request = q; fate = Untold } ∷ [] }
 
 -- a server acknowledged a chunk
-abbrev pub settles : BookHistory → Evidence → BookHistory
+abbrev pub settles : BookHistory → ServerAck → BookHistory
 settles b e = record b { settled = b.settled ++ e ∷ [] }
 
 -- what becomes of a request where the test holds
@@ -178,7 +178,7 @@ abbrev pub is_owed_to : ℕ → Admission → Bool
 is_owed_to conn a = is_untold a.fate && is_of conn a.request
 
 -- and all its entries are acknowledged
-abbrev pub is_due : ℕ → List Evidence → Admission → Bool
+abbrev pub is_due : ℕ → List ServerAck → Admission → Bool
 is_due conn settled a = is_owed_to conn a && is_settled settled a.request
 
 -- the requests that the connection is to be told of, in the order in which they were entered

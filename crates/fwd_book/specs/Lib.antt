@@ -6,4 +6,4 @@ pub mod Live
 pub mod Gathering
 pub mod Slots
 pub mod Links
-pub mod Notes
+pub mod ChunkRefs

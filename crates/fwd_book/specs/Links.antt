@@ -5,9 +5,9 @@ use Rattle.std.specs.List.{list_any}
 use Rattle.std.specs.Map.{lookup}
 use Rattle.slab.specs.Slab.{Slab, get}
 use Rattle.fwd_modes.specs.declared.origin.Origin.{Origin}
-use Rattle.fwd_book.specs.declared.chains.Link.{Link}
-use Rattle.fwd_book.specs.declared.chains.Ends.{Ends}
-use Rattle.fwd_book.specs.declared.chains.Kept.{Kept}
+use Rattle.fwd_book.specs.declared.connection_index.Link.{Link}
+use Rattle.fwd_book.specs.declared.connection_index.Ends.{Ends}
+use Rattle.fwd_book.specs.declared.connection_index.Kept.{Kept}
 use Rattle.fwd_book.specs.History.{Entered, is_of}
 
 -- the link of a request that is kept, if it is the connection's

@@ -29,7 +29,7 @@ use Rattle.fwd_modes.specs.Acks.{ack_name}
 use Rattle.fwd_modes.specs.declared.origin.Origin.{Origin}
 use Rattle.fwd_chunks.specs.declared.span.Span.{Span}
 use Rattle.fwd_chunks.specs.Spans.{run_in, AreRising, AreCutBy}
-use Rattle.fwd_session.specs.Evidence.{Evidence}
+use Rattle.fwd_session.specs.ServerAcks.{ServerAck}
 use Rattle.fwd_book.specs.History.{
   BookSetting,
   Entered,
@@ -50,18 +50,18 @@ use Rattle.fwd_book.specs.History.{
 pub record LiveBook : Type 0 where
   pub setting : BookSetting
   pub requests : List Entered
-  pub settled : List Evidence
+  pub settled : List ServerAck
 
 -- what is found under the numbers of runs, one run after the other
-abbrev pub found_under : (ℕ → Option Evidence) → List Span → List Evidence
+abbrev pub found_under : (ℕ → Option ServerAck) → List Span → List ServerAck
 found_under found spans = flat_map (λ s. option_to_list (found s.number)) spans
 
 -- what is found under the numbers of requests, one request after the other
-abbrev pub found_for : (ℕ → Option Evidence) → List Entered → List Evidence
+abbrev pub found_for : (ℕ → Option ServerAck) → List Entered → List ServerAck
 found_for found qs = flat_map (λ q. found_under found q.spans) qs
 
 -- what was acknowledged under the numbers of requests
-abbrev pub evidence_for : List Entered → List Evidence → List Evidence
+abbrev pub evidence_for : List Entered → List ServerAck → List ServerAck
 evidence_for qs settled = found_for (evidence_of settled) qs
 
 -- the live part of a history
@@ -81,7 +81,7 @@ abbrev pub live_enters : LiveBook → Entered → LiveBook
 live_enters b q = record b { requests = b.requests ++ q ∷ [] }
 
 -- a server acknowledged a chunk: it is kept where some request has entries in it
-abbrev pub live_settles : LiveBook → Evidence → LiveBook
+abbrev pub live_settles : LiveBook → ServerAck → LiveBook
 live_settles b e = record b { settled = evidence_for b.requests (b.settled ++ e ∷ []) }
 
 -- the requests that pass a test leave, and with them what was acknowledged of their entries alone
@@ -120,7 +120,7 @@ abbrev pub live_owed_of : LiveBook → ℕ → ℕ
 live_owed_of b conn = length (filter (is_of conn) b.requests)
 
 -- a request is there, and all its entries are acknowledged
-abbrev pub settled_if : List Evidence → Option Entered → Bool
+abbrev pub settled_if : List ServerAck → Option Entered → Bool
 settled_if settled None = false
 settled_if settled (Some q) = is_settled settled q
 
@@ -144,7 +144,7 @@ HasItsRuns number chunk (s ∷ spans) own =
 
 -- What was acknowledged is of what a request has: where the request has its number, it is under the
 -- request's tag, and each run of that number is there.
-pub record IsOf (q : Entered) (e : Evidence) : Type 0 where
+pub record IsOf (q : Entered) (e : ServerAck) : Type 0 where
   pub tag : has_run e.number q ≡ true → e.tag ≡ q.tag
   pub runs : HasItsRuns e.number e.entries q.spans q.entries
 
@@ -161,9 +161,9 @@ pub record IsSound (b : LiveBook) : Type 0 where
   pub cut : (i : ℕ) (q : Entered) → slice_get b.requests i ≡ Some q → AreCutBy q.spans q.entries
   pub rising : (i : ℕ) (q : Entered) → slice_get b.requests i ≡ Some q
       → AreRising (map (λ s. s.number) q.spans)
-  pub names : (j : ℕ) (e : Evidence) → slice_get b.settled j ≡ Some e
+  pub names : (j : ℕ) (e : ServerAck) → slice_get b.settled j ≡ Some e
       → ack_name e.reply ≡ Some (name_at b.setting e.number)
-  pub of : (i j : ℕ) (q : Entered) (e : Evidence) → slice_get b.requests i ≡ Some q
+  pub of : (i j : ℕ) (q : Entered) (e : ServerAck) → slice_get b.requests i ≡ Some q
       → slice_get b.settled j ≡ Some e → IsOf q e
 
 -- ---- a book as its calls show it

@@ -5,7 +5,7 @@ use Rattle.std.specs.Prelude.{◌≡◌, ℕ, ◌&&◌, ◌==◌, Bool, List, []
 use Rattle.std.specs.List.{flat_map, AllByRecursion}
 use Rattle.slab.specs.Slab.{Slab, get}
 use Rattle.fwd_modes.specs.declared.origin.Origin.{Origin}
-use Rattle.fwd_book.specs.declared.chains.Kept.{Kept}
+use Rattle.fwd_book.specs.declared.connection_index.Kept.{Kept}
 use Rattle.fwd_book.specs.History.{Entered, is_of}
 
 -- the numbers of an origin, and its request if that is still there

@@ -72,11 +72,11 @@ ghost use Rattle.fwd_book.specs.Live.{
   live_due,
   evidence_for,
 };
-ghost use Rattle.fwd_book.specs.Notes.{note_at, uses_in, used_more, used_less};
+ghost use Rattle.fwd_book.specs.ChunkRefs.{note_at, uses_in, used_more, used_less};
 
+use crate::chunk_refs::ChunkRefs;
 use crate::entered_request::EnteredRequest;
 use crate::laws::receipts_are_right;
-use crate::numbers::Numbers;
 use crate::receipt::Receipt;
 use crate::requests::Requests;
 use fwd_chunks::{Span, Spans};
@@ -94,7 +94,7 @@ pub struct Book {
     run: [u8; 6],
     output: u16,
     requests: Requests,
-    numbers: Numbers,
+    numbers: ChunkRefs,
     /// The request that room was made for.
     ready: Option<Batch>,
 }
@@ -114,7 +114,7 @@ impl Drop for Book {
 
 impl Model for Book {
     ghost use Rattle.fwd_book.specs.Live.{BookState, IsSound};
-    ghost use Rattle.fwd_book.specs.Notes.{AreOf, live_of, HasRoom};
+    ghost use Rattle.fwd_book.specs.ChunkRefs.{AreOf, live_of, HasRoom};
 
     ghost Value = { BookState };
 
@@ -130,7 +130,7 @@ impl Model for Book {
 }
 
 /// One request more has the numbers of these runs, which rise.
-fn use_all(numbers: &mut Numbers, spans: &[Span])
+fn use_all(numbers: &mut ChunkRefs, spans: &[Span])
     requires room { length spans.now ≤ numbers.old.room }
     requires few { (n : ℕ) → uses_in (note_at n numbers.old.notes) < 2 ^ 63 }
     requires rising { AreRising (map (λ s. s.number) spans.now) }
@@ -144,7 +144,7 @@ fn use_all(numbers: &mut Numbers, spans: &[Span])
 }
 
 /// One request less has the numbers of these runs, which rise.
-fn leave_all(numbers: &mut Numbers, spans: &[Span])
+fn leave_all(numbers: &mut ChunkRefs, spans: &[Span])
     requires rising { AreRising (map (λ s. s.number) spans.now) }
     ensures noted { (n : ℕ) → note_at n numbers.new.notes
         ≡ (if list_any (λ s. s.number == n) spans.now
@@ -210,7 +210,7 @@ impl Book {
             run,
             output,
             requests: Requests::new(alloc),
-            numbers: Numbers::new(alloc),
+            numbers: ChunkRefs::new(alloc),
             ready: None,
         }
     }

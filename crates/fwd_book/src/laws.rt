@@ -15,7 +15,7 @@ ghost use Rattle.std.specs.Prelude.{
 };
 ghost use Rattle.fwd_modes.specs.Acks.{ack_name};
 ghost use Rattle.fwd_modes.specs.declared.origin.Origin.{Origin};
-ghost use Rattle.fwd_session.specs.Evidence.{Evidence};
+ghost use Rattle.fwd_session.specs.ServerAcks.{ServerAck};
 ghost use Rattle.fwd_chunks.specs.Spans.{AreCutBy, AreRising};
 ghost use Rattle.fwd_book.specs.History.{
   BookSetting,
@@ -64,7 +64,7 @@ pub fn live_follows()
         live_book (opening setting) ≡ live_opening setting }
     ensures enters { (b : BookHistory) (q : Entered) → is_fresh b.settled q ≡ true →
         live_book (enters b q) ≡ live_enters (live_book b) q }
-    ensures settles { (b : BookHistory) (e : Evidence) →
+    ensures settles { (b : BookHistory) (e : ServerAck) →
         live_book (settles b e) ≡ live_settles (live_book b) e }
     ensures tells { (b : BookHistory) (origins : List Origin) → CanBeTold b origins →
         live_book (tells b origins) ≡ live_leaves (live_book b) origins }
@@ -94,7 +94,7 @@ pub fn stays_sound()
         request_at b.requests q.origin ≡ None → AreCutBy q.spans q.entries →
         AreRising (map (λ s. s.number) q.spans) → is_fresh b.settled q ≡ true →
         IsSound (live_enters b q) }
-    ensures settles { (b : LiveBook) (e : Evidence) → IsSound b →
+    ensures settles { (b : LiveBook) (e : ServerAck) → IsSound b →
         ack_name e.reply ≡ Some (name_at b.setting e.number) →
         ((i : ℕ) (q : Entered) → slice_get b.requests i ≡ Some q → IsOf q e) →
         IsSound (live_settles b e) }

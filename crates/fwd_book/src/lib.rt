@@ -2,13 +2,13 @@
 #![tactic(auto)]
 
 mod book;
-mod chains;
+mod chunk_refs;
+mod connection_index;
 mod entered_request;
 mod laws;
-mod numbers;
 mod receipt;
 mod requests;
 
 pub use book::Book;
 pub use laws::{due_is_found, live_follows, origins_are_enough, receipts_are_right, stays_sound};
-pub use receipt::{Part, Receipt};
+pub use receipt::{AckedRange, Receipt};

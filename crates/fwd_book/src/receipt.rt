@@ -14,17 +14,17 @@ use std::sync::Arc;
 
 /// A run of a request's entries in a chunk that a server acknowledged.
 #[derive(Drop)]
-pub struct Part {
+pub struct AckedRange {
     chunk: Arc<Acked>,
     from: u64,
     count: u64,
 }
 
-impl Model for Part {
+impl Model for AckedRange {
     ghost use Rattle.std.specs.Arc.{arc_value};
-    ghost use Rattle.fwd_book.specs.Receipts.{Part};
+    ghost use Rattle.fwd_book.specs.Receipts.{AckedRange};
 
-    ghost Value = { Part };
+    ghost Value = { AckedRange };
 
     ghost view = { λ p. record {
       evidence = arc_value p.chunk;
@@ -33,13 +33,13 @@ impl Model for Part {
     } };
 }
 
-impl Part {
+impl AckedRange {
     /// A run in a chunk.
     pub(crate) fn new(chunk: Arc<Acked>, from: u64, count: u64) -> Self
         ensures { result
             ≡ record { evidence = arc_value chunk; from = from; count = count } }
     {
-        Part { chunk, from, count }
+        AckedRange { chunk, from, count }
     }
 
     /// The chunk, as it was sent, with the server's reply.
@@ -69,7 +69,7 @@ impl Part {
 pub struct Receipt {
     origin: Origin,
     request: Batch,
-    parts: Vec<Part>,
+    parts: Vec<AckedRange>,
 }
 
 // A drop of its own is proved once, and not at each place where a receipt goes.
@@ -103,7 +103,7 @@ impl Model for Receipt {
 
 impl Receipt {
     /// The receipt of a request by its parts. The only error is out of memory.
-    pub(crate) fn new(kept: &EnteredRequest, parts: Vec<Part>) -> Result<Self, AllocError>
+    pub(crate) fn new(kept: &EnteredRequest, parts: Vec<AckedRange>) -> Result<Self, AllocError>
         requires shown { flat_map shown_by parts.items ≡ kept.now.entries }
         ensures { IfOk result (λ receipt. receipt ≡ record {
           origin = kept.now.origin;
@@ -151,7 +151,7 @@ impl Receipt {
 
     /// The runs of its entries, in their order. The entries of these runs, one after the other,
     /// are the request's.
-    pub fn parts(&self) -> &[Part]
+    pub fn parts(&self) -> &[AckedRange]
         ensures { result.now ≡ self.now.parts }
     {
         &self.parts

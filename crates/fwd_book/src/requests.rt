@@ -31,12 +31,12 @@ ghost use Rattle.std.specs.List.{IsDistinct};
 ghost use Rattle.std.specs.Map.{keys_of, lookup, remove_entry};
 ghost use Rattle.indexmap.specs.IndexMap.{spare};
 ghost use Rattle.fwd_book.specs.History.{is_of, is_origin, request_at};
-ghost use Rattle.fwd_book.specs.Notes.{are_found};
+ghost use Rattle.fwd_book.specs.ChunkRefs.{are_found};
 ghost use Rattle.fwd_book.specs.Slots.{is_key, held_at, led_to};
 
-use crate::chains::Chains;
+use crate::chunk_refs::ChunkRefs;
+use crate::connection_index::ConnectionIndex;
 use crate::entered_request::EnteredRequest;
-use crate::numbers::Numbers;
 use fwd_modes::Origin;
 use indexmap::IndexMap;
 use std::alloc::{AllocError, Global};
@@ -47,7 +47,7 @@ use std::marker::Model;
 #[derive(Drop)]
 pub(crate) struct Requests {
     index: IndexMap<(u64, u64), usize>,
-    chains: Chains,
+    chains: ConnectionIndex,
 }
 
 impl Model for Requests {
@@ -89,7 +89,7 @@ fn lead(index: &mut IndexMap<(u64, u64), usize>, key: (u64, u64), slot: usize)
 }
 
 /// The entries that lead to no request leave the index.
-fn drop_empty(index: &mut IndexMap<(u64, u64), usize>, chains: &Chains)
+fn drop_empty(index: &mut IndexMap<(u64, u64), usize>, chains: &ConnectionIndex)
     ensures left { index.new.entries
         ≡ filter (λ e. is_some (led_to (held_at chains.now.kept) e)) index.old.entries }
     ensures unique { IsDistinct is_key (keys_of index.new.entries) }
@@ -114,7 +114,7 @@ impl Requests {
     {
         Requests {
             index: IndexMap::new(alloc),
-            chains: Chains::new(alloc),
+            chains: ConnectionIndex::new(alloc),
         }
     }
 
@@ -141,7 +141,7 @@ impl Requests {
         &self,
         alloc: Global,
         conn: u64,
-        numbers: &Numbers,
+        numbers: &ChunkRefs,
     ) -> Result<Vec<Origin>, AllocError>
         ensures due { IfOk result (λ due. due.items ≡ map (λ q. q.origin)
             (filter (λ q. is_of conn q && are_found numbers.now.notes q) self.now.items)) }

@@ -10,8 +10,8 @@ use Rattle.std.proofs.lemmas.Slice.Eq.{bytes_eq-Decides}
 use Rattle.fwd_modes.specs.declared.limits.TheConstants.{TAG_LIMIT}
 use Rattle.fwd_chunks.specs.declared.chunk.Chunk.{Chunk}
 use Rattle.fwd_chunks.specs.declared.span.Span.{Span}
-use Rattle.fwd_chunks.specs.declared.stage.Stage.TheVariants.{Open, Closed, Taken}
-use Rattle.fwd_chunks.specs.declared.stage.Stage.{Stage}
+use Rattle.fwd_chunks.specs.declared.chunk_state.ChunkState.TheVariants.{Open, Closed, Taken}
+use Rattle.fwd_chunks.specs.declared.chunk_state.ChunkState.{ChunkState}
 use Rattle.fwd_modes.specs.Requests.{Request}
 use Rattle.fwd_chunks.specs.Cells.{size_of, number_after}
 use Rattle.fwd_chunks.specs.Stored.{TagFits, IsStored}
@@ -169,7 +169,7 @@ joined-open tag n front (d ∷ chunks) all = λ i. one (d.number == n) refl i �
     stage-open : is_open_of tag d ≡ true → d.stage ≡ Open
     stage-open e = at d.stage (and_parts (is_open d.stage) (bytes_eq d.tag tag) e).0
       where
-        at : (s : Stage) → is_open s ≡ true → s ≡ Open
+        at : (s : ChunkState) → is_open s ≡ true → s ≡ Open
         at Open f = refl
         at Closed f = absurd cc
         at (Taken w) f = absurd cc

@@ -4,10 +4,10 @@ use Rattle.std.specs.Prelude.{filter, not, find, option_map, is_some}
 use Rattle.fwd_modes.specs.declared.limits.TheConstants.{TAG_LIMIT}
 use Rattle.fwd_chunks.specs.declared.chunk.Chunk.{Chunk}
 use Rattle.fwd_chunks.specs.declared.flush.FlushKind.{FlushKind}
-use Rattle.fwd_chunks.specs.declared.stage.Stage.TheVariants.{Closed}
+use Rattle.fwd_chunks.specs.declared.chunk_state.ChunkState.TheVariants.{Closed}
 use Rattle.fwd_chunks.specs.Cells.{size_of}
-use Rattle.fwd_chunks.specs.History.{Load}
-use Rattle.fwd_chunks.specs.Live.{LiveBuffer, is_open, staged, changed, is_at, held_in, bytes_in, live_looks, live_closes, live_flushes, live_load, live_carried, IsCarried, live_settles, live_frees}
+use Rattle.fwd_chunks.specs.History.{CarriedChunk}
+use Rattle.fwd_chunks.specs.Live.{LiveBuffer, is_open, staged, changed, is_at, held_in, bytes_in, live_looks, live_closes, live_flushes, live_carried_chunk, live_carried, IsCarried, live_settles, live_frees}
 use Rattle.fwd_chunks.specs.Soundness.{IsSound}
 use Rattle.fwd_chunks.specs.Stored.{TagFits, IsStored, put_back}
 use Rattle.fwd_chunks.proofs.Sounding.{all-map, all-filter, bytes-total, held-total, total-map, total-filter, changed-sound, settles-sound}
@@ -122,10 +122,10 @@ settles-none b n e =
 -- ---- what a worker has
 
 pub carried-by : (b : LiveBuffer) (n : ℕ) → IsSound b
-    → live_carried b n ≡ option_map (live_load b) (if_taken (find (is_at n) b.chunks))
-carried-by b n sound = ap (option_map (live_load b)) (taken-found n b.chunks sound.in_order)
+    → live_carried b n ≡ option_map (live_carried_chunk b) (if_taken (find (is_at n) b.chunks))
+carried-by b n sound = ap (option_map (live_carried_chunk b)) (taken-found n b.chunks sound.in_order)
 
-pub carried-none : (b : LiveBuffer) (load : Load) → live_carried b load.number ≡ None
+pub carried-none : (b : LiveBuffer) (load : CarriedChunk) → live_carried b load.number ≡ None
     → IsCarried b load → ⊥
 carried-none b load e is = none (sym e ∙ is)
   where

@@ -6,7 +6,7 @@ use Rattle.std.specs.Str.{bytes_eq}
 use Rattle.std.proofs.lemmas.Bool.{and_parts}
 use Rattle.std.proofs.lemmas.Slice.Eq.{bytes_eq-Decides}
 use Rattle.fwd_modes.specs.Requests.{Request}
-use Rattle.fwd_counts.specs.declared.tag_count.TagCount.{TagCount}
+use Rattle.fwd_base.specs.declared.tag_count.TagCount.{TagCount}
 use Rattle.fwd_chunks.specs.declared.chunk.Chunk.{Chunk}
 use Rattle.fwd_chunks.specs.declared.tag_entry.TagEntry.{TagEntry}
 use Rattle.fwd_chunks.specs.Cells.{size_of}

@@ -6,7 +6,7 @@ use Rattle.std.proofs.lemmas.Bool.{cases_lt, or_parts, true≢false, both_ways, 
 use Rattle.std.proofs.lemmas.Bool.Decides.{nat_tests}
 use Rattle.std.proofs.lemmas.List.{get_or_past}
 use Rattle.std.proofs.lemmas.List.Sums.{position_or_len_is}
-use Rattle.fwd_chunks.specs.Earliest.{is_within, first_within}
+use Rattle.fwd_chunks.specs.MinTrees.{is_within, first_within}
 use Rattle.fwd_chunks.specs.Levels.{Levels, keys_at, key_at, lesser, IsOver, IsTower}
 use Rattle.fwd_chunks.proofs.Halves.{halves}
 use Rattle.fwd_chunks.proofs.Towers.{tower-over}

@@ -8,7 +8,7 @@ use Rattle.std.proofs.lemmas.List.{append-nil}
 use Rattle.std.proofs.lemmas.Slice.Eq.{bytes_eq-Decides}
 use Rattle.fwd_chunks.specs.declared.chunk.Chunk.{Chunk}
 use Rattle.fwd_chunks.specs.declared.span.Span.{Span}
-use Rattle.fwd_chunks.specs.declared.stage.Stage.TheVariants.{Closed}
+use Rattle.fwd_chunks.specs.declared.chunk_state.ChunkState.TheVariants.{Closed}
 use Rattle.fwd_chunks.specs.Cells.{size_of}
 use Rattle.fwd_chunks.specs.History.{before_runs}
 use Rattle.fwd_chunks.specs.Live.{LiveBuffer, is_open, staged, changed, is_at, is_open_of, may_take, live_next_number, live_adds_to, live_adds, live_adds_all, live_place, live_runs}

@@ -12,10 +12,10 @@ use Rattle.fwd_chunks.specs.declared.limits.BufferLimits.{BufferLimits}
 use Rattle.fwd_chunks.specs.declared.flush.FlushKind.{FlushKind}
 use Rattle.fwd_chunks.specs.declared.flush.FlushKind.TheVariants.{Due, All}
 use Rattle.fwd_chunks.specs.declared.fault.AdmitError.TheVariants.{Full, NumbersSpent}
-use Rattle.fwd_chunks.specs.declared.stage.Stage.TheVariants.{Closed, Taken}
+use Rattle.fwd_chunks.specs.declared.chunk_state.ChunkState.TheVariants.{Closed, Taken}
 use Rattle.fwd_chunks.specs.Cells.{Cell, Carry, size_of, entries_of, cells_at, contents, first_tag, first_moment, has_number, numbers_of, has_entry, greatest, is_carried, without, losses_of}
-use Rattle.fwd_chunks.specs.History.{BufferHistory, next_number, has_room, joins, adds, adds_all, looks, enters, unsettled, is_full, is_spent, refusal, before_runs, runs_after, spans_of, is_old, closes, closing, flushes, is_over, is_free, given, carry_more, takes, load_of, settles, frees, counts}
-use Rattle.fwd_chunks.specs.Live.{stage_by, stage_of, live_chunk, live_buffer, is_open, is_closed, is_taken, staged, changed, is_at, held_in, bytes_in, is_open_of, may_take, first_chunk, live_adds_to, live_adds, live_adds_all, live_looks, live_enters, live_is_full, live_is_spent, live_refusal, live_place, live_runs, live_spans, live_closes, live_closing, live_flushes, live_is_free, live_given, live_carries_more, live_takes, live_load, live_carried, live_settles, live_frees, live_counts}
+use Rattle.fwd_chunks.specs.History.{BufferHistory, next_number, has_room, joins, adds, adds_all, looks, enters, unsettled, is_full, is_spent, refusal, before_runs, runs_after, spans_of, is_old, closes, closing, flushes, is_over, is_free, given, carry_more, takes, carried_chunk_of, settles, frees, counts}
+use Rattle.fwd_chunks.specs.Live.{stage_by, stage_of, live_chunk, live_buffer, is_open, is_closed, is_taken, staged, changed, is_at, held_in, bytes_in, is_open_of, may_take, first_chunk, live_adds_to, live_adds, live_adds_all, live_looks, live_enters, live_is_full, live_is_spent, live_refusal, live_place, live_runs, live_spans, live_closes, live_closing, live_flushes, live_is_free, live_given, live_carries_more, live_takes, live_carried_chunk, live_carried, live_settles, live_frees, live_counts}
 use Rattle.fwd_retry.specs.Tallies.{tally_of, live_is_over, tally_more}
 use Rattle.fwd_retry.proofs.Doublings.{wait_settles}
 use Rattle.fwd_chunks.proofs.Numbers.{true_false, not_from, eq_same, filter-within, filter-map, filter-same, find-map, find-same, find_only, find_no, map-map, map-same, has_number-push, has_number-filter, AreDistinct, least_first, sum_over, sum_over-same}
@@ -615,17 +615,17 @@ takes-live h worker now fits own =
 -- ---- giving back
 
 pub carried-live : (h : BufferHistory) (k : ℕ) → IsSane h
-    → live_carried (live_buffer h) k ≡ cond (is_carried k h.carried) (Some (load_of h k)) None
+    → live_carried (live_buffer h) k ≡ cond (is_carried k h.carried) (Some (carried_chunk_of h k)) None
 unfolding live_buffer
 carried-live h k own = by_chunks ∙ by (is_carried k h.carried) refl
   where
-    by_chunks : live_carried (live_buffer h) k ≡ option_map (load_of h)
+    by_chunks : live_carried (live_buffer h) k ≡ option_map (carried_chunk_of h)
         (find (λ j. (j == k) && is_taken (stage_of h j)) (live_numbers h))
-    by_chunks = ap (option_map (live_load (live_buffer h))) (find-map (λ c. is_at k c && is_taken c.stage) (live_chunk h) (live_numbers h)) ∙ joined (find (λ j. (j == k) && is_taken (stage_of h j)) (live_numbers h))
+    by_chunks = ap (option_map (live_carried_chunk (live_buffer h))) (find-map (λ c. is_at k c && is_taken c.stage) (live_chunk h) (live_numbers h)) ∙ joined (find (λ j. (j == k) && is_taken (stage_of h j)) (live_numbers h))
       where
         joined : (o : Option ℕ)
-            → option_map (live_load (live_buffer h)) (option_map (live_chunk h) o) ≡ option_map
-            (load_of h) o
+            → option_map (live_carried_chunk (live_buffer h)) (option_map (live_chunk h) o) ≡ option_map
+            (carried_chunk_of h) o
         joined None = refl
         joined (Some j) = refl
 
@@ -641,16 +641,16 @@ carried-live h k own = by_chunks ∙ by (is_carried k h.carried) refl
     untaken false (Some c) e = absurd cc
 
     by : (b : Bool) → is_carried k h.carried ≡ b
-        → option_map (load_of h)
+        → option_map (carried_chunk_of h)
         (find (λ j. (j == k) && is_taken (stage_of h j)) (live_numbers h)) ≡ cond b
-        (Some (load_of h k)) None
+        (Some (carried_chunk_of h k)) None
     by true e =
         let shut : has_number k h.opened ≡ false = not_from (has_number k h.opened) (λ f. true_false (is_carried k h.carried) e (own.opened_uncarried k f)) in
-        ap (option_map (load_of h)) (find_only (λ j. (j == k) && is_taken (stage_of h j)) k (live_numbers h) (is_live h k (own.carried_has k e) (own.carried_unacked k e))
+        ap (option_map (carried_chunk_of h)) (find_only (λ j. (j == k) && is_taken (stage_of h j)) k (live_numbers h) (is_live h k (own.carried_has k e) (own.carried_unacked k e))
         (and_from (k == k) (is_taken (stage_of h k)) (eq_same k) (taken (has_number k h.opened) true (carry_at k h.carried) (sym (any-find (λ c. c.number == k) h.carried) ∙ e) shut))
         (λ j f g. eqb-true j k (and_parts (j == k) (is_taken (stage_of h j)) g).0))
     by false e =
-        ap (option_map (load_of h)) (find_no (λ j. (j == k) && is_taken (stage_of h j)) (live_numbers h) (λ j f g.
+        ap (option_map (carried_chunk_of h)) (find_no (λ j. (j == k) && is_taken (stage_of h j)) (live_numbers h) (λ j f g.
         let parts = and_parts (j == k) (is_taken (stage_of h j)) g in
         let same : j ≡ k = eqb-true j k parts.0 in
         true_false (is_taken (stage_of h j)) parts.1 (ap (λ x. is_taken (stage_of h x)) same ∙ untaken (has_number k h.opened) (carry_at k h.carried) (sym (any-find (λ c. c.number == k) h.carried) ∙ e))))

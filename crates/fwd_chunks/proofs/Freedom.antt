@@ -8,8 +8,8 @@ use Rattle.fwd_retry.specs.Waits.{wait_after}
 use Rattle.fwd_retry.specs.Tallies.{live_is_over}
 use Rattle.fwd_retry.specs.declared.losses.Losses.{Losses}
 use Rattle.fwd_chunks.specs.declared.chunk.Chunk.{Chunk}
-use Rattle.fwd_chunks.specs.declared.stage.Stage.{Stage}
-use Rattle.fwd_chunks.specs.declared.stage.Stage.TheVariants.{Open, Closed, Taken}
+use Rattle.fwd_chunks.specs.declared.chunk_state.ChunkState.{ChunkState}
+use Rattle.fwd_chunks.specs.declared.chunk_state.ChunkState.TheVariants.{Open, Closed, Taken}
 use Rattle.fwd_chunks.specs.Live.{LiveBuffer, is_closed, live_is_free, live_looks, live_given}
 use Rattle.fwd_chunks.specs.Free.{IsFree, IsLeastFree}
 use Rattle.fwd_chunks.specs.Soundness.{IsBefore, AreInOrder, IsSound}
@@ -21,17 +21,17 @@ use Rattle.std.proofs.lemmas.Option.{same_Some}
 no_some : {X : Type 0} (x : X) → None ≡ Some x → ⊥
 no_some x e = cc
 
-closed-shut : (s : Stage) → is_closed s ≡ true → s ≢ Open
+closed-shut : (s : ChunkState) → is_closed s ≡ true → s ≢ Open
 closed-shut Open e = absurd cc
 closed-shut Closed e = λ f. cc
 closed-shut (Taken worker) e = absurd cc
 
-closed-idle : (s : Stage) → is_closed s ≡ true → (worker : ℕ) → s ≢ Taken worker
+closed-idle : (s : ChunkState) → is_closed s ≡ true → (worker : ℕ) → s ≢ Taken worker
 closed-idle Open e = absurd cc
 closed-idle Closed e = λ worker f. cc
 closed-idle (Taken other) e = absurd cc
 
-closed-from : (s : Stage) → s ≢ Open → ((worker : ℕ) → s ≢ Taken worker) → is_closed s ≡ true
+closed-from : (s : ChunkState) → s ≢ Open → ((worker : ℕ) → s ≢ Taken worker) → is_closed s ≡ true
 closed-from Open shut idle = absurd (shut refl)
 closed-from Closed shut idle = refl
 closed-from (Taken worker) shut idle = absurd (idle worker refl)

@@ -10,11 +10,11 @@ use Rattle.fwd_modes.specs.Requests.{Request}
 use Rattle.fwd_chunks.specs.declared.chunk.Chunk.{Chunk}
 use Rattle.fwd_chunks.specs.declared.span.Span.{Span}
 use Rattle.fwd_chunks.specs.declared.flush.FlushKind.{FlushKind}
-use Rattle.fwd_chunks.specs.declared.stage.Stage.{Stage}
-use Rattle.fwd_chunks.specs.declared.stage.Stage.TheVariants.{Closed, Taken}
+use Rattle.fwd_chunks.specs.declared.chunk_state.ChunkState.{ChunkState}
+use Rattle.fwd_chunks.specs.declared.chunk_state.ChunkState.TheVariants.{Closed, Taken}
 use Rattle.fwd_chunks.specs.Cells.{size_of}
-use Rattle.fwd_chunks.specs.History.{Load, before_runs}
-use Rattle.fwd_chunks.specs.Live.{LiveBuffer, is_open, staged, is_at, live_next_number, is_open_of, may_take, first_chunk, live_adds_to, live_adds, live_adds_all, live_looks, live_enters, live_place, live_runs, live_spans, live_closes, live_flushes, live_given, live_carries_more, live_takes, live_load, live_carried, IsCarried, is_taken, live_frees, live_settles}
+use Rattle.fwd_chunks.specs.History.{CarriedChunk, before_runs}
+use Rattle.fwd_chunks.specs.Live.{LiveBuffer, is_open, staged, is_at, live_next_number, is_open_of, may_take, first_chunk, live_adds_to, live_adds, live_adds_all, live_looks, live_enters, live_place, live_runs, live_spans, live_closes, live_flushes, live_given, live_carries_more, live_takes, live_carried_chunk, live_carried, IsCarried, is_taken, live_frees, live_settles}
 use Rattle.fwd_retry.specs.Tallies.{tally_more}
 use Rattle.fwd_chunks.specs.Soundness.{IsBefore, AreInOrder, IsSound}
 use Rattle.fwd_chunks.specs.Spans.{run_in, AreRising, AreCutBy, IsHeld, AreHeld, IsGone}
@@ -551,7 +551,7 @@ restages-if test f h = record {
     by-entries c true = h.entries c
     by-entries c false = refl
 
-restaged : (stage : Stage) → Restages (staged stage)
+restaged : (stage : ChunkState) → Restages (staged stage)
 restaged stage = record { number = λ c. refl; tag = λ c. refl; entries = λ c. refl }
 
 map-held : (f : Chunk → Chunk) → Restages f → (chunks : List Chunk) (tag : List ℕ) (s : Span)
@@ -673,28 +673,28 @@ found-below : (b : LiveBuffer) (n : ℕ) (c : Chunk) → IsSound b → find (is_
 found-below b n c sound e =
     omega (arith, found-all (λ d. d.number < live_next_number b) (is_at n) b.chunks c e sound.below, found-number n b.chunks c e)
 
-pub carried-found : (b : LiveBuffer) (n : ℕ) (load : Load) → live_carried b n ≡ Some load
+pub carried-found : (b : LiveBuffer) (n : ℕ) (load : CarriedChunk) → live_carried b n ≡ Some load
     → AreInOrder b.chunks
-    → (c : Chunk) × (find (is_at n) b.chunks ≡ Some c) × (live_load b c ≡ load)
+    → (c : Chunk) × (find (is_at n) b.chunks ≡ Some c) × (live_carried_chunk b c ≡ load)
 carried-found b n load e order = by (find (λ c. is_at n c && is_taken c.stage) b.chunks) refl e
   where
     by : (o : Option Chunk) → find (λ c. is_at n c && is_taken c.stage) b.chunks ≡ o
-        → option_map (live_load b) o ≡ Some load
-        → (c : Chunk) × (find (is_at n) b.chunks ≡ Some c) × (live_load b c ≡ load)
+        → option_map (live_carried_chunk b) o ≡ Some load
+        → (c : Chunk) × (find (is_at n) b.chunks ≡ Some c) × (live_carried_chunk b c ≡ load)
     by None f g = absurd cc
     by (Some c) f g =
         let at : c.number ≡ n = eqb-true c.number n (and_parts (is_at n c) (is_taken c.stage) (found-passes (λ d. is_at n d && is_taken d.stage) b.chunks c f)).0 in
         (c, subst (λ k. find (is_at k) b.chunks ≡ Some c) at (found-at (λ d. is_at n d && is_taken d.stage) b.chunks c order f), same_Some _ _ g)
 
 -- the chunk of what is settled is gone
-pub settled-gone : (b : LiveBuffer) (load : Load) → IsSound b → IsCarried b load
+pub settled-gone : (b : LiveBuffer) (load : CarriedChunk) → IsSound b → IsCarried b load
     → IsGone (live_settles b load.number) load.number
 settled-gone b load sound e =
     let c = carried-found b load.number load e sound.in_order in
     record { none = find-without load.number b.chunks; given = found-below b load.number c.0 sound c.1 }
 
 -- a run in a chunk that a worker has is a run in what the worker has
-pub carried-run : (b : LiveBuffer) (load : Load) (tag : List ℕ) (s : Span)
+pub carried-run : (b : LiveBuffer) (load : CarriedChunk) (tag : List ℕ) (s : Span)
     (own : List (List ℕ)) → IsSound b → IsCarried b load → s.number ≡ load.number
     → IsHeld b.chunks tag s own
     → (load.tag ≡ tag) × (run_in load.entries s ≡ take s.count own)

@@ -4,7 +4,7 @@ use Rattle.std.specs.Prelude.{Bool, map, ◌||◌}
 use Rattle.std.specs.List.{concat, list_any}
 use Rattle.std.proofs.lemmas.List.{take_at, append-nil, take-append-drop}
 use Rattle.std.proofs.lemmas.List.Folds.{concat-append}
-use Rattle.fwd_chunks.specs.declared.pieces.TheConstants.{PIECE_LIMIT}
+use Rattle.fwd_chunks.specs.declared.write_slices.TheConstants.{PIECE_LIMIT}
 use Rattle.fwd_chunks.specs.Lending.{AreSome, IsLent}
 
 -- no bytes

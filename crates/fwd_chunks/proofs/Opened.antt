@@ -7,7 +7,7 @@ use Rattle.std.proofs.lemmas.Bool.{and_parts}
 use Rattle.std.proofs.lemmas.List.{append-nil}
 use Rattle.std.proofs.lemmas.Slice.Eq.{bytes_eq-Decides}
 use Rattle.fwd_chunks.specs.declared.chunk.Chunk.{Chunk}
-use Rattle.fwd_chunks.specs.declared.stage.Stage.TheVariants.{Open, Closed}
+use Rattle.fwd_chunks.specs.declared.chunk_state.ChunkState.TheVariants.{Open, Closed}
 use Rattle.fwd_chunks.specs.declared.tag_entry.TagEntry.{TagEntry}
 use Rattle.fwd_chunks.specs.Cells.{size_of}
 use Rattle.fwd_chunks.specs.Live.{is_open, is_at, is_open_of, staged, changed}

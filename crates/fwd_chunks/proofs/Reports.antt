@@ -7,7 +7,7 @@ use Rattle.std.proofs.lemmas.Bool.{ltb-true, lt-ltb}
 use Rattle.std.proofs.lemmas.List.{length-append, length-map}
 use Rattle.std.proofs.lemmas.List.Sums.{sum_by-cons}
 use Rattle.std.proofs.lemmas.Slice.Eq.{bytes_eq-Decides}
-use Rattle.fwd_counts.specs.declared.tag_count.TagCount.{TagCount}
+use Rattle.fwd_base.specs.declared.tag_count.TagCount.{TagCount}
 use Rattle.fwd_chunks.specs.declared.chunk.Chunk.{Chunk}
 use Rattle.fwd_chunks.specs.Cells.{Cell, size_of, cells_at, contents, first_tag, has_number, has_entry}
 use Rattle.fwd_chunks.specs.History.{BufferHistory, unsettled}

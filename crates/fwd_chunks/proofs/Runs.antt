@@ -10,9 +10,9 @@ use Rattle.fwd_modes.specs.declared.origin.Origin.{Origin}
 use Rattle.fwd_modes.specs.Requests.{Request}
 use Rattle.fwd_chunks.specs.declared.fault.AdmitError.{AdmitError}
 use Rattle.fwd_chunks.specs.Cells.{Cell, cells_at, first_tag, has_number, numbers_of, has_entry, last_number, is_carried}
-use Rattle.fwd_chunks.specs.History.{BufferSetting, BufferHistory, opening, next_number, joins, adds, adds_all, looks, enters, refusal, is_free, lesser, least, given, IsGiven, load_of, settles, frees}
+use Rattle.fwd_chunks.specs.History.{BufferSetting, BufferHistory, opening, next_number, joins, adds, adds_all, looks, enters, refusal, is_free, lesser, least, given, IsGiven, carried_chunk_of, settles, frees}
 use Rattle.fwd_chunks.specs.Events.{BufferEvent, Enter, Flush, Take, Settle, Free, unless_refused, history_next, history_after, IsReached, NumbersRise, TagNumbersRise, NumbersHaveOneTag}
-use Rattle.fwd_chunks.specs.Live.{live_buffer, live_opening, live_chunk, live_given, live_load, live_settles, live_frees, live_next}
+use Rattle.fwd_chunks.specs.Live.{live_buffer, live_opening, live_chunk, live_given, live_carried_chunk, live_settles, live_frees, live_next}
 use Rattle.fwd_chunks.specs.Soundness.{IsSound}
 use Rattle.fwd_chunks.proofs.Numbers.{true_false, not_from, eq_same, has_number-filter}
 use Rattle.fwd_chunks.proofs.CellLemmas.{any-push, has_entry-cell, last_number-entry, below-next}
@@ -30,7 +30,7 @@ unfolding live_buffer
 opening-live setting = refl
 
 some-carried : (b : Bool) (h : BufferHistory) (k : ℕ)
-    → is_some (cond b (Some (load_of h k)) None) ≡ b
+    → is_some (cond b (Some (carried_chunk_of h k)) None) ≡ b
 some-carried true h k = refl
 some-carried false h k = refl
 
@@ -199,13 +199,13 @@ given-only h answer is = by answer (given h) is (given-is h)
     by (Some j) (Some k) f g = ap Some (omega (arith, f.1 k g.0, g.1 j f.0))
 
 pub load-live : (h : BufferHistory) → h.setting.limits.retry_max < 2 ^ 64 → IsSane h
-    → option_map (load_of h) (given h)
-    ≡ option_map (live_load (live_buffer h)) (live_given (live_buffer h))
+    → option_map (carried_chunk_of h) (given h)
+    ≡ option_map (live_carried_chunk (live_buffer h)) (live_given (live_buffer h))
 unfolding live_buffer
-load-live h fits own = by (given h) ∙ ap (option_map (live_load (live_buffer h))) (sym (given-live h fits own))
+load-live h fits own = by (given h) ∙ ap (option_map (live_carried_chunk (live_buffer h))) (sym (given-live h fits own))
   where
     by : (o : Option ℕ)
-        → option_map (load_of h) o ≡ option_map (live_load (live_buffer h))
+        → option_map (carried_chunk_of h) o ≡ option_map (live_carried_chunk (live_buffer h))
         (option_map (live_chunk h) o)
     by None = refl
     by (Some k) = refl

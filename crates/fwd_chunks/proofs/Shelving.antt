@@ -10,11 +10,11 @@ use Rattle.std.proofs.lemmas.List.Sums.{sum_by-cons}
 use Rattle.slab.specs.Slab.{Slab, get, slab_len, Updates, with_value}
 use Rattle.slab.proofs.SlabLemmas.{Updates-with_value}
 use Rattle.fwd_chunks.specs.declared.chunk.Chunk.{Chunk}
-use Rattle.fwd_chunks.specs.declared.shelf.Place.{Place}
-use Rattle.fwd_chunks.specs.declared.shelf.Kept.{Kept}
+use Rattle.fwd_chunks.specs.declared.chunk_slab.ChunkPlace.{ChunkPlace}
+use Rattle.fwd_chunks.specs.declared.chunk_slab.Kept.{Kept}
 use Rattle.fwd_chunks.specs.Live.{is_at}
 use Rattle.fwd_chunks.specs.Slots.{Slot, slot_of, chunk_in, revised, present, is_full, is_slot, IsLower, IsOwn, NumbersRise}
-use Rattle.fwd_chunks.specs.Shelved.{Shelved, StandsAt, chunk_of, numbered, slot_by, slots_by, place_by, AreLinked, IsThere, IsShelved}
+use Rattle.fwd_chunks.specs.Slabs.{SlabShown, StandsAt, chunk_of, numbered, slot_by, slots_by, place_by, AreLinked, IsThere, IsSlab}
 use Rattle.fwd_chunks.proofs.Numbers.{not_from, true_false, eq_same}
 use Rattle.fwd_chunks.proofs.Places.{none_some, get-past}
 use Rattle.fwd_chunks.proofs.Search.{number-place}
@@ -28,7 +28,7 @@ get-map f [] i = refl
 get-map f (x ∷ xs) zero = refl
 get-map f (x ∷ xs) (suc i) = get-map f xs i
 
-pub slots-at : (kept : Slab Kept) (places : List Place) (i : ℕ) (p : Place)
+pub slots-at : (kept : Slab Kept) (places : List ChunkPlace) (i : ℕ) (p : ChunkPlace)
     → slice_get places i ≡ Some p → slice_get (slots_by kept places) i ≡ Some (slot_by kept p)
 slots-at kept places i p e = get-map (slot_by kept) places i ∙ ap (option_map (slot_by kept)) e
 
@@ -52,13 +52,13 @@ number-slot xs i n e = by (slice_get xs i) refl e
     by (Some s) f g = (s, f, same_Some _ _ g)
 
 -- the slot of a chunk that lies at a key
-pub linked-at : (places : List Place) (kept : Slab Kept) → AreLinked places kept → (key : ℕ) (k : Kept)
+pub linked-at : (places : List ChunkPlace) (kept : Slab Kept) → AreLinked places kept → (key : ℕ) (k : Kept)
     → get kept key ≡ Some k → slice_get (slots_by kept places) k.place ≡ Some (slot_of k.chunk)
 linked-at places kept linked key k e =
     slots-at kept places k.place (place_by key k) (linked key k e)
     ∙ ap (λ o. Some (record { number = k.chunk.number; chunk = o })) (ap (λ o. numbered k.chunk.number (chunk_of o)) e ∙ numbered-self k.chunk)
 
-pub linked-place : (places : List Place) (kept : Slab Kept) → AreLinked places kept
+pub linked-place : (places : List ChunkPlace) (kept : Slab Kept) → AreLinked places kept
     → NumbersRise (slots_by kept places) → (n key : ℕ) (k : Kept) → get kept key ≡ Some k
     → k.chunk.number ≡ n → position (is_slot n) (slots_by kept places) ≡ Some k.place
 linked-place places kept linked rise n key k e same =
@@ -77,7 +77,7 @@ pub some-of : (n : ℕ) (k : Kept) → k.chunk.number ≡ n → IsOf n (Some k)
 some-of n k same m apart = numbered-other m k.chunk (λ e. apart (sym e ∙ same))
 
 module _ (old new : Slab Kept) (key n : ℕ) (slot : Option Kept) (updates : Updates old new key slot) (was : IsOf n (get old key)) (is : IsOf n slot) where
-  pub slot-other : (p : Place) → p.number ≢ n → slot_by new p ≡ slot_by old p
+  pub slot-other : (p : ChunkPlace) → p.number ≢ n → slot_by new p ≡ slot_by old p
   slot-other p apart = ap (λ o. record { number = p.number; chunk = o }) (elim (cases_eq p.key key) [
     | inl same ↦
         ap (λ k. numbered p.number (chunk_of (get new k))) same
@@ -88,7 +88,7 @@ module _ (old new : Slab Kept) (key n : ℕ) (slot : Option Kept) (updates : Upd
     | inr differs ↦ ap (λ o. numbered p.number (chunk_of o)) (updates.others p.key differs)
   ])
 
-  pub slots-other : (places : List Place) → AllByRecursion (λ s. s.number ≢ n) (slots_by old places)
+  pub slots-other : (places : List ChunkPlace) → AllByRecursion (λ s. s.number ≢ n) (slots_by old places)
       → slots_by new places ≡ slots_by old places
   slots-other [] apart = refl
   slots-other (p ∷ places) apart = λ j. slot-other p apart.0 j ∷ slots-other places apart.1 j
@@ -105,7 +105,7 @@ module _ (old new : Slab Kept) (key n : ℕ) (slot : Option Kept) (updates : Upd
   below-apart s (u ∷ slots) (suc i) t all e same = below-apart s slots i t all.1 e same
 
   -- the slot of the number changes, and no other
-  pub slots-written : (f : Option Chunk → Option Chunk) (places : List Place) (i : ℕ)
+  pub slots-written : (f : Option Chunk → Option Chunk) (places : List ChunkPlace) (i : ℕ)
       → slice_get places i ≡ Some (record { number = n; key = key })
       → numbered n (chunk_of slot) ≡ f (numbered n (chunk_of (get old key)))
       → NumbersRise (slots_by old places)
@@ -182,11 +182,11 @@ len-set (o ∷ slots) (suc key) x y e =
     omega (arith, len-set slots key x y e, sum_by-cons (λ p. cond (is_some p) 1 0) o slots, sum_by-cons (λ p. cond (is_some p) 1 0) o (set slots key (Some y)))
 
 -- a chunk changes that lies at a key
-module _ (places : List Place) (kept : Slab Kept) (own : IsShelved places kept) (rise : NumbersRise (slots_by kept places)) (i key : ℕ) (stands : StandsAt places kept i key) where
+module _ (places : List ChunkPlace) (kept : Slab Kept) (own : IsSlab places kept) (rise : NumbersRise (slots_by kept places)) (i key : ℕ) (stands : StandsAt places kept i key) where
   abbrev k : Kept
   k = stands.0
 
-  abbrev p : Place
+  abbrev p : ChunkPlace
   p = place_by key k
 
   at : slice_get places i ≡ Some p
@@ -224,7 +224,7 @@ module _ (places : List Place) (kept : Slab Kept) (own : IsShelved places kept) 
     pub put-len : slab_len (with_value kept key next) ≡ slab_len kept
     put-len = len-set kept.slots key k next lies
 
-    pub put-shelved : IsShelved places (with_value kept key next)
+    pub put-shelved : IsSlab places (with_value kept key next)
     put-shelved = record {
       linked = λ other l e. elim (cases_eq other key) [
         | inl here ↦
@@ -240,7 +240,7 @@ module _ (places : List Place) (kept : Slab Kept) (own : IsShelved places kept) 
 -- ---- what is shown
 
 -- what places and the slab show
-abbrev pub seen : List Place → ℕ → Slab Kept → Shelved
+abbrev pub seen : List ChunkPlace → ℕ → Slab Kept → SlabShown
 seen places cap kept = record {
   slots = slots_by kept places;
   cap = cap;
@@ -248,11 +248,11 @@ seen places cap kept = record {
 }
 
 -- no chunk stands at the place
-module _ (places : List Place) (kept : Slab Kept) (i : ℕ) where
+module _ (places : List ChunkPlace) (kept : Slab Kept) (i : ℕ) where
   pub no-place : slice_get places i ≡ None → chunk_in (slice_get (slots_by kept places) i) ≡ None
   no-place e = ap chunk_in (get-map (slot_by kept) places i ∙ ap (option_map (slot_by kept)) e)
 
-  module _ (p : Place) (at : slice_get places i ≡ Some p) where
+  module _ (p : ChunkPlace) (at : slice_get places i ≡ Some p) where
     pub no-key : get kept p.key ≡ None → chunk_in (slice_get (slots_by kept places) i) ≡ None
     no-key e = ap chunk_in (slots-at kept places i p at) ∙ ap (λ o. numbered p.number (chunk_of o)) e
 
@@ -264,20 +264,20 @@ module _ (places : List Place) (kept : Slab Kept) (i : ℕ) where
         ∙ numbered-other p.number k.chunk apart
 
 -- the chunk at the place's key is the place's
-pub stands-at : (places : List Place) (kept : Slab Kept) (i : ℕ) (p : Place) (k : Kept)
+pub stands-at : (places : List ChunkPlace) (kept : Slab Kept) (i : ℕ) (p : ChunkPlace) (k : Kept)
     → slice_get places i ≡ Some p → get kept p.key ≡ Some k → k.chunk.number ≡ p.number
     → StandsAt places kept i p.key
 stands-at places kept i p k at lies same = (k, lies, at ∙ (λ j. Some (record { number = sym same j; key = p.key })))
 
 -- so nothing changes
-pub still-shown : (f : Chunk → Chunk) (places : List Place) (cap : ℕ) (kept : Slab Kept) (i : ℕ)
+pub still-shown : (f : Chunk → Chunk) (places : List ChunkPlace) (cap : ℕ) (kept : Slab Kept) (i : ℕ)
     → chunk_in (slice_get (slots_by kept places) i) ≡ None
     → seen places cap kept
     ≡ record (seen places cap kept) { slots = revised i (option_map f) (slots_by kept places) }
 still-shown f places cap kept i none = λ j. record (seen places cap kept) { slots = sym (revised-none f (slots_by kept places) i none) j }
 
 -- a chunk that changes is shown so
-pub put-shown : (places : List Place) (cap : ℕ) (kept : Slab Kept) → IsShelved places kept
+pub put-shown : (places : List ChunkPlace) (cap : ℕ) (kept : Slab Kept) → IsSlab places kept
     → NumbersRise (slots_by kept places) → (i key : ℕ)
     → (stands : StandsAt places kept i key) → (f : Chunk → Chunk) → (d : Chunk)
     → d ≡ f stands.0.chunk → (f stands.0.chunk).number ≡ stands.0.chunk.number
@@ -290,7 +290,7 @@ put-shown places cap kept own rise i key stands f d is numbers = λ j. record {
 }
 
 -- what is read at the key is what stands there
-abbrev pub stands-with : (places : List Place) (kept : Slab Kept) (i key : ℕ) → StandsAt places kept i key
+abbrev pub stands-with : (places : List ChunkPlace) (kept : Slab Kept) (i key : ℕ) → StandsAt places kept i key
     → (k : Kept) → get kept key ≡ Some k → StandsAt places kept i key
 stands-with places kept i key stands k lies =
     (k, lies, stands.2 ∙ (λ j. Some (place_by key (same_Some stands.0 k (sym stands.1 ∙ lies) j))))
@@ -298,7 +298,7 @@ stands-with places kept i key stands k lies =
 -- ---- by number
 
 -- each chunk has its slot's number
-pub own-slots : (kept : Slab Kept) (places : List Place) → AllByRecursion IsOwn (slots_by kept places)
+pub own-slots : (kept : Slab Kept) (places : List ChunkPlace) → AllByRecursion IsOwn (slots_by kept places)
 own-slots kept [] = tt
 own-slots kept (p ∷ places) = (by (chunk_of (get kept p.key)), own-slots kept places)
   where
@@ -313,7 +313,7 @@ own-slots kept (p ∷ places) = (by (chunk_of (get kept p.key)), own-slots kept 
         at false e = tt
 
 -- the chunk that lies at a key is its number's
-pub linked-found : (places : List Place) (kept : Slab Kept) → AreLinked places kept
+pub linked-found : (places : List ChunkPlace) (kept : Slab Kept) → AreLinked places kept
     → NumbersRise (slots_by kept places) → (n key : ℕ) (k : Kept) → get kept key ≡ Some k
     → k.chunk.number ≡ n → Some k.chunk ≡ find (is_at n) (present (slots_by kept places))
 linked-found places kept linked rise n key k e same =
@@ -322,14 +322,14 @@ linked-found places kept linked rise n key k e same =
 
 -- ---- a chunk that leaves
 
-module _ (places : List Place) (kept : Slab Kept) (own : IsShelved places kept) (rise : NumbersRise (slots_by kept places)) (i key : ℕ) (stands : StandsAt places kept i key) (after : Slab Kept) (updates : Updates kept after key None) (len : slab_len after + 1 ≡ slab_len kept) where
+module _ (places : List ChunkPlace) (kept : Slab Kept) (own : IsSlab places kept) (rise : NumbersRise (slots_by kept places)) (i key : ℕ) (stands : StandsAt places kept i key) (after : Slab Kept) (updates : Updates kept after key None) (len : slab_len after + 1 ≡ slab_len kept) where
   pub taken-slots : slots_by after places ≡ revised i (λ o. None) (slots_by kept places)
   taken-slots =
       slots-written kept after key stands.0.chunk.number None updates
       (subst (IsOf stands.0.chunk.number) (sym stands.1) (some-of stands.0.chunk.number stands.0 refl))
       (none-of stands.0.chunk.number) (λ o. None) places i stands.2 refl rise
 
-  pub taken-shelved : IsShelved places after
+  pub taken-shelved : IsSlab places after
   taken-shelved = record {
     linked = λ other l e. elim (cases_eq other key) [
       | inl here ↦ absurd (none_some (sym updates.changed ∙ ap (get after) (sym here) ∙ e))
@@ -350,8 +350,8 @@ get-behind : {X : Type 0} (xs : List X) (x : X) → slice_get (xs ++ x ∷ []) (
 get-behind [] x = refl
 get-behind (z ∷ xs) x = get-behind xs x
 
-module _ (places : List Place) (kept : Slab Kept) (own : IsShelved places kept) (c : Chunk) (key : ℕ) (after : Slab Kept) (vacant : get kept key ≡ None) (updates : Updates kept after key (Some (record { chunk = c; place = length places }))) (len : slab_len after ≡ slab_len kept + 1) (above : AllByRecursion (λ s. s.number < c.number) (slots_by kept places)) where
-  abbrev fresh : Place
+module _ (places : List ChunkPlace) (kept : Slab Kept) (own : IsSlab places kept) (c : Chunk) (key : ℕ) (after : Slab Kept) (vacant : get kept key ≡ None) (updates : Updates kept after key (Some (record { chunk = c; place = length places }))) (len : slab_len after ≡ slab_len kept + 1) (above : AllByRecursion (λ s. s.number < c.number) (slots_by kept places)) where
+  abbrev fresh : ChunkPlace
   fresh = record { number = c.number; key = key }
 
   pub pushed-slots : slots_by after (places ++ fresh ∷ []) ≡ slots_by kept places ++ slot_of c ∷ []
@@ -364,7 +364,7 @@ module _ (places : List Place) (kept : Slab Kept) (own : IsShelved places kept) 
       let new : slot_by after fresh ≡ slot_of c = ap (λ o. record { number = c.number; chunk = o }) (ap (λ o. numbered c.number (chunk_of o)) updates.changed ∙ numbered-self c) in
       map-append (slot_by after) places (fresh ∷ []) ∙ (λ j. same j ++ new j ∷ [])
 
-  pub pushed-shelved : IsShelved (places ++ fresh ∷ []) after
+  pub pushed-shelved : IsSlab (places ++ fresh ∷ []) after
   pushed-shelved = record {
     linked = λ other l e. elim (cases_eq other key) [
       | inl here ↦
@@ -386,7 +386,7 @@ all-at P (y ∷ xs) zero x all e = subst P (same_Some _ _ e) all.0
 all-at P (y ∷ xs) (suc i) x all e = all-at P xs i x all.1 e
 
 -- a full slot's chunk lies at its key
-full-there : (kept : Slab Kept) (p : Place) → is_full (slot_by kept p) ≡ true
+full-there : (kept : Slab Kept) (p : ChunkPlace) → is_full (slot_by kept p) ≡ true
     → (k : Kept) × (get kept p.key ≡ Some k) × (k.chunk.number ≡ p.number)
 full-there kept p = by (get kept p.key) refl
   where
@@ -402,20 +402,20 @@ full-there kept p = by (get kept p.key) refl
         at false f full = absurd (true_false false full refl)
 
 -- each chunk knows its place, or has one from this on
-abbrev pub AreLinking : ℕ → List Place → Slab Kept → Type 0
+abbrev pub AreLinking : ℕ → List ChunkPlace → Slab Kept → Type 0
 AreLinking from places kept =
     (key : ℕ) (k : Kept) → get kept key ≡ Some k
     → (slice_get places k.place ≡ Some (place_by key k))
     ⊎ ((i : ℕ) × (from ≤ i) × (slice_get places i ≡ Some (place_by key k)))
 
 -- what holds of the slab while chunks are told their places
-pub record Linking (from : ℕ) (places : List Place) (old now : Slab Kept) : Type 0 where
+pub record Linking (from : ℕ) (places : List ChunkPlace) (old now : Slab Kept) : Type 0 where
   pub linking : AreLinking from places now
   pub chunks : (key : ℕ) → chunk_of (get now key) ≡ chunk_of (get old key)
   pub count : slab_len now ≡ slab_len old
   pub capacity : now.capacity ≡ old.capacity
 
-pub linking-start : (places : List Place) (kept : Slab Kept) → IsThere places kept
+pub linking-start : (places : List ChunkPlace) (kept : Slab Kept) → IsThere places kept
     → Linking 0 places kept kept
 linking-start places kept there = record {
   linking = λ key k e. (let at = there key k e in inr (at.0, omega arith, at.1));
@@ -424,7 +424,7 @@ linking-start places kept there = record {
   capacity = refl;
 }
 
-pub linking-end : (from : ℕ) (places : List Place) (old now : Slab Kept) → length places ≤ from
+pub linking-end : (from : ℕ) (places : List ChunkPlace) (old now : Slab Kept) → length places ≤ from
     → Linking from places old now → AreLinked places now
 linking-end from places old now past h = λ key k e. elim (h.linking key k e) [
   | inl done ↦ done
@@ -432,7 +432,7 @@ linking-end from places old now past h = λ key k e. elim (h.linking key k e) [
 ]
 
 -- the chunk at a key is told its place
-module _ (i : ℕ) (places : List Place) (old now : Slab Kept) (h : Linking i places old now) (full : AllByRecursion (λ p. is_full (slot_by old p) ≡ true) places) (p : Place) (at : slice_get places i ≡ Some p) where
+module _ (i : ℕ) (places : List ChunkPlace) (old now : Slab Kept) (h : Linking i places old now) (full : AllByRecursion (λ p. is_full (slot_by old p) ≡ true) places) (p : ChunkPlace) (at : slice_get places i ≡ Some p) where
   pub linking-there : (k : Kept) × (get now p.key ≡ Some k) × (k.chunk.number ≡ p.number)
   linking-there =
       full-there now p (ap (λ o. is_some (numbered p.number o)) (h.chunks p.key) ∙ all-at (λ q. is_full (slot_by old q) ≡ true) places i p full at)
@@ -479,7 +479,7 @@ module _ (i : ℕ) (places : List Place) (old now : Slab Kept) (h : Linking i pl
 -- ---- the empty slots leave
 
 -- whether a place's chunk is there
-abbrev pub is_kept : Slab Kept → Place → Bool
+abbrev pub is_kept : Slab Kept → ChunkPlace → Bool
 is_kept kept p = is_full (slot_by kept p)
 
 all-kept : {X : Type 0} (test : X → Bool) (xs : List X) → AllByRecursion (λ x. test x ≡ true) (filter test xs)
@@ -516,11 +516,11 @@ map-filter f test (x ∷ xs) = by (test (f x)) (map-filter f test xs)
     by false rest = rest
 
 same-chunks : (old new : Slab Kept) → ((key : ℕ) → chunk_of (get new key) ≡ chunk_of (get old key))
-    → (places : List Place) → slots_by new places ≡ slots_by old places
+    → (places : List ChunkPlace) → slots_by new places ≡ slots_by old places
 same-chunks old new same [] = refl
 same-chunks old new same (p ∷ places) = λ j. record { number = p.number; chunk = numbered p.number (same p.key j) } ∷ same-chunks old new same places j
 
-module _ (places : List Place) (kept : Slab Kept) (own : IsShelved places kept) where
+module _ (places : List ChunkPlace) (kept : Slab Kept) (own : IsSlab places kept) where
   pub kept-full : AllByRecursion (λ p. is_kept kept p ≡ true) (filter (is_kept kept) places)
   kept-full = all-kept (is_kept kept) places
 
@@ -536,7 +536,7 @@ module _ (places : List Place) (kept : Slab Kept) (own : IsShelved places kept) 
         ∙ map-filter (slot_by kept) is_full places
 
     pub kept-shelved : AreLinked (filter (is_kept kept) places) after → slab_len after ≡ slab_len kept
-        → IsShelved (filter (is_kept kept) places) after
+        → IsSlab (filter (is_kept kept) places) after
     kept-shelved linked len = record {
       linked = linked;
       counted = len ∙ own.counted ∙ sym (ap length (present-full (slots_by kept places))) ∙ ap (λ l. length (present l)) (sym kept-slots);

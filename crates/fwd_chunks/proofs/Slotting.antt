@@ -12,7 +12,7 @@ use Rattle.fwd_retry.specs.declared.retry.Retry.{Retry}
 use Rattle.fwd_retry.specs.Waits.{wait_after}
 use Rattle.fwd_chunks.specs.Live.{is_at, is_open, is_closed, changed}
 use Rattle.fwd_retry.specs.Tallies.{live_is_over}
-use Rattle.fwd_chunks.specs.Earliest.{is_within}
+use Rattle.fwd_chunks.specs.MinTrees.{is_within}
 use Rattle.fwd_chunks.specs.Slots.{chunk_in, present, is_slot, is_full, ready_key, due_key, began_by, key_by, IsNone, AreKeys, padded, IsLower, NumbersRise, IsOwn, IsTimed}
 use Rattle.fwd_retry.specs.Tallies.{end_of_wait}
 use Rattle.fwd_chunks.proofs.Numbers.{not_from, true_false, eq_same}

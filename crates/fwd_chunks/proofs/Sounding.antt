@@ -9,7 +9,7 @@ use Rattle.fwd_chunks.specs.declared.chunk.Chunk.{Chunk}
 use Rattle.fwd_chunks.specs.declared.flush.FlushKind.{FlushKind}
 use Rattle.fwd_chunks.specs.declared.fault.AdmitError.{AdmitError}
 use Rattle.fwd_chunks.specs.declared.fault.AdmitError.TheVariants.{Full, NumbersSpent}
-use Rattle.fwd_chunks.specs.declared.stage.Stage.TheVariants.{Closed, Taken}
+use Rattle.fwd_chunks.specs.declared.chunk_state.ChunkState.TheVariants.{Closed, Taken}
 use Rattle.fwd_chunks.specs.Cells.{size_of}
 use Rattle.fwd_chunks.specs.History.{BufferSetting}
 use Rattle.fwd_chunks.specs.Events.{BufferEvent, Enter, Flush, Take, Settle, Free, unless_refused}

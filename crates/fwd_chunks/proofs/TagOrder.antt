@@ -15,7 +15,7 @@ use Rattle.std.proofs.lemmas.List.Sorted.{IsPermutation-map, All-permutation, li
 use Rattle.std.proofs.lemmas.Map.Keys.{IsDistinct-IsPermutation, apart_from_distinct, sorted_from_all_adjacent}
 use Rattle.std.proofs.lemmas.Map.Lookups.{exact_bytes}
 use Rattle.std.proofs.lemmas.Slice.Eq.{bytes_eq-Decides}
-use Rattle.fwd_counts.specs.declared.tag_count.TagCount.{TagCount}
+use Rattle.fwd_base.specs.declared.tag_count.TagCount.{TagCount}
 use Rattle.fwd_chunks.specs.Cells.{size_of}
 use Rattle.fwd_chunks.specs.TagCounts.{Tagged, of_tag, tag_count, is_before, with_tag, tags_of, tag_counts, AreTagCounts}
 use Rattle.fwd_chunks.proofs.Numbers.{not_from, true_false}

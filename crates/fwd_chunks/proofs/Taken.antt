@@ -8,11 +8,11 @@ use Rattle.fwd_modes.specs.Requests.{Request}
 use Rattle.fwd_chunks.specs.declared.chunk.Chunk.{Chunk}
 use Rattle.fwd_chunks.specs.declared.flush.FlushKind.{FlushKind}
 use Rattle.fwd_chunks.specs.declared.flush.FlushKind.TheVariants.{Due, All}
-use Rattle.fwd_chunks.specs.declared.stage.Stage.{Stage}
-use Rattle.fwd_chunks.specs.declared.stage.Stage.TheVariants.{Open, Closed, Taken}
+use Rattle.fwd_chunks.specs.declared.chunk_state.ChunkState.{ChunkState}
+use Rattle.fwd_chunks.specs.declared.chunk_state.ChunkState.TheVariants.{Open, Closed, Taken}
 use Rattle.fwd_chunks.specs.Cells.{size_of}
-use Rattle.fwd_chunks.specs.History.{Load}
-use Rattle.fwd_chunks.specs.Live.{LiveBuffer, is_open, is_closed, is_taken, staged, changed, is_at, is_open_of, may_take, first_chunk, live_adds_to, live_adds, live_adds_all, live_looks, live_enters, is_due, live_closes, live_flushes, live_is_free, live_given, live_carries_more, live_takes, live_load, live_carried, live_settles, live_frees}
+use Rattle.fwd_chunks.specs.History.{CarriedChunk}
+use Rattle.fwd_chunks.specs.Live.{LiveBuffer, is_open, is_closed, is_taken, staged, changed, is_at, is_open_of, may_take, first_chunk, live_adds_to, live_adds, live_adds_all, live_looks, live_enters, is_due, live_closes, live_flushes, live_is_free, live_given, live_carries_more, live_takes, live_carried_chunk, live_carried, live_settles, live_frees}
 use Rattle.fwd_retry.specs.Tallies.{live_is_over, tally_more}
 use Rattle.fwd_chunks.specs.Soundness.{IsBefore, AreInOrder, IsSound}
 use Rattle.fwd_chunks.proofs.Numbers.{not_from, eq_same}
@@ -30,12 +30,12 @@ and_false : (a : Bool) → (a && false) ≡ false
 and_false true = refl
 and_false false = refl
 
-open-free : (s : Stage) → is_open s ≡ true → is_taken s ≡ false
+open-free : (s : ChunkState) → is_open s ≡ true → is_taken s ≡ false
 open-free Open e = refl
 open-free Closed e = refl
 open-free (Taken worker) e = absurd cc
 
-closed-free : (s : Stage) → is_closed s ≡ true → is_taken s ≡ false
+closed-free : (s : ChunkState) → is_closed s ≡ true → is_taken s ≡ false
 closed-free Open e = refl
 closed-free Closed e = refl
 closed-free (Taken worker) e = absurd cc
@@ -122,11 +122,11 @@ adds-carried b tag entry n own = by (find (may_take b tag entry) b.chunks) refl
         let may = found-passes (may_take b tag entry) b.chunks c e in
         let of = (and_parts (is_open_of tag c) (nat_le (size_of c.entries + length entry) b.setting.limits.chunk) may).0 in
         let free : is_taken c.stage ≡ false = open-free c.stage (and_parts (is_open c.stage) (bytes_eq c.tag tag) of).0 in
-        ap (option_map (live_load b)) (find-changed (has n) (is_at c.number) (with_entry entry) b.chunks
+        ap (option_map (live_carried_chunk b)) (find-changed (has n) (is_at c.number) (with_entry entry) b.chunks
         (all-mapped (λ d. (d.number == c.number) ≡ true → d ≡ c) (λ d. is_at c.number d ≡ true → (has n d ≡ false) × (has n (with_entry entry d) ≡ false))
         (λ d only at. let no = free-not n d (ap (λ x. is_taken x.stage) (only at) ∙ free) in (no, no)) b.chunks (found-only (may_take b tag entry) b.chunks c own.in_order e)))
     by None e =
-        ap (option_map (live_load b)) (
+        ap (option_map (live_carried_chunk b)) (
         find-push (has n) (changed (is_open_of tag) (staged Closed) b.chunks) (first_chunk b tag entry) (free-not n (first_chunk b tag entry) refl)
         ∙ find-changed (has n) (is_open_of tag) (staged Closed) b.chunks
         (all-of (λ d. is_open_of tag d ≡ true → (has n d ≡ false) × (has n (staged Closed d) ≡ false))
@@ -138,7 +138,7 @@ adds_all-carried [] b tag n own = refl
 adds_all-carried (entry ∷ entries) b tag n own =
     adds_all-carried entries (live_adds b tag entry) tag n (adds-sorted b tag entry own) ∙ adds-carried b tag entry n own
 
-pub carried-enters : (b : LiveBuffer) (r : Request) (now n : ℕ) (load : Load) → IsSound b
+pub carried-enters : (b : LiveBuffer) (r : Request) (now n : ℕ) (load : CarriedChunk) → IsSound b
     → live_carried b n ≡ Some load → live_carried (live_enters b r now) n ≡ Some load
 carried-enters b r now n load own has =
     adds_all-carried r.entries (live_looks b now) r.tag n (sorted b now own) ∙ has
@@ -153,7 +153,7 @@ due-open Due interval moment c e = (and_parts (is_open c.stage) (nat_le (c.since
 pub carried-flushes : (b : LiveBuffer) (now : ℕ) (kind : FlushKind) (n : ℕ)
     → live_carried (live_flushes b now kind) n ≡ live_carried b n
 carried-flushes b now kind n =
-    ap (option_map (live_load b)) (find-changed (has n) (live_closes (live_looks b now) kind) (staged Closed) b.chunks
+    ap (option_map (live_carried_chunk b)) (find-changed (has n) (live_closes (live_looks b now) kind) (staged Closed) b.chunks
     (all-of (λ c. live_closes (live_looks b now) kind c ≡ true → (has n c ≡ false) × (has n (staged Closed c) ≡ false))
     (λ c e. (free-not n c (open-free c.stage (due-open kind b.setting.limits.interval (live_looks b now).moment c e)), free-not n (staged Closed c) refl)) b.chunks))
 
@@ -168,7 +168,7 @@ given-closed b c e =
 pub given-free : (b : LiveBuffer) (now : ℕ) (c : Chunk) → IsSound b
     → live_given (live_looks b now) ≡ Some c → live_carried b c.number ≡ None
 given-free b now c own given =
-    ap (option_map (live_load b)) (find-none (has c.number) b.chunks
+    ap (option_map (live_carried_chunk b)) (find-none (has c.number) b.chunks
     (all-mapped (λ d. (d.number == c.number) ≡ true → d ≡ c) (λ d. has c.number d ≡ false)
     (λ d only. at d only (is_at c.number d) refl) b.chunks (found-only (live_is_free (live_looks b now)) b.chunks c own.in_order given)))
   where
@@ -178,7 +178,7 @@ given-free b now c own given =
     at d only false e = ap (λ t. t && is_taken d.stage) e
 
 -- it is carried afterwards, and all else that was carried
-pub carried-takes : (b : LiveBuffer) (worker now n : ℕ) (load : Load) → IsSound b
+pub carried-takes : (b : LiveBuffer) (worker now n : ℕ) (load : CarriedChunk) → IsSound b
     → live_carried b n ≡ Some load → live_carried (live_takes b worker now) n ≡ Some load
 carried-takes b worker now n load own carried = by (live_given (live_looks b now)) refl
   where
@@ -186,7 +186,7 @@ carried-takes b worker now n load own carried = by (live_given (live_looks b now
         → live_carried (live_carries_more worker o (live_looks b now)) n ≡ Some load
     by None e = carried
     by (Some c) e =
-        ap (option_map (live_load b)) (find-changed (has n) (is_at c.number) (staged (Taken worker)) b.chunks
+        ap (option_map (live_carried_chunk b)) (find-changed (has n) (is_at c.number) (staged (Taken worker)) b.chunks
         (all-mapped (λ d. (d.number == c.number) ≡ true → d ≡ c) (λ d. is_at c.number d ≡ true → (has n d ≡ false) × (has n (staged (Taken worker) d) ≡ false))
         (λ d only at. (
           free-not n d (ap (λ x. is_taken x.stage) (only at) ∙ given-closed (live_looks b now) c e),
@@ -202,10 +202,10 @@ carried-takes b worker now n load own carried = by (live_given (live_looks b now
 
 pub given-carried : (b : LiveBuffer) (worker now : ℕ) (c : Chunk) → IsSound b
     → live_given (live_looks b now) ≡ Some c
-    → live_carried (live_takes b worker now) c.number ≡ Some (live_load b c)
+    → live_carried (live_takes b worker now) c.number ≡ Some (live_carried_chunk b c)
 given-carried b worker now c own given =
     ap (λ o. live_carried (live_carries_more worker o (live_looks b now)) c.number) given
-    ∙ ap (option_map (live_load b)) (find-taken (live_is_free (live_looks b now)) worker b.chunks c own.in_order given)
+    ∙ ap (option_map (live_carried_chunk b)) (find-taken (live_is_free (live_looks b now)) worker b.chunks c own.in_order given)
 
 -- ---- settling
 
@@ -227,7 +227,7 @@ find-settled k n differ (c ∷ chunks) = by (find-settled k n differ chunks) (is
 
 pub carried-settles : (b : LiveBuffer) (k n : ℕ) → k ≢ n
     → live_carried (live_settles b k) n ≡ live_carried b n
-carried-settles b k n differ = ap (option_map (live_load b)) (find-settled k n differ b.chunks)
+carried-settles b k n differ = ap (option_map (live_carried_chunk b)) (find-settled k n differ b.chunks)
 
 -- ---- giving back
 
@@ -249,7 +249,7 @@ find-freed b k n f differ free = find-changed (has n) (is_at k) f b.chunks
 pub carried-frees : (b : LiveBuffer) (k n : ℕ) (loss : Option ℕ) → k ≢ n
     → live_carried (live_frees b k loss) n ≡ live_carried b n
 carried-frees b k n None differ =
-    ap (option_map (live_load b)) (find-freed b k n (staged Closed) differ (λ c. refl))
+    ap (option_map (live_carried_chunk b)) (find-freed b k n (staged Closed) differ (λ c. refl))
 carried-frees b k n (Some now) differ =
     let moment = max b.moment now in
-    ap (option_map (live_load b)) (find-freed b k n (λ c. record c { stage = Closed; losses = Some (tally_more c.losses moment) }) differ (λ c. refl))
+    ap (option_map (live_carried_chunk b)) (find-freed b k n (λ c. record c { stage = Closed; losses = Some (tally_more c.losses moment) }) differ (λ c. refl))

@@ -7,7 +7,7 @@ use Rattle.std.proofs.lemmas.Bool.{cases_lt, lt-ltb}
 use Rattle.std.proofs.lemmas.List.{get_or_past, length-map, get_or-set_same, get_or-set_other}
 use Rattle.std.proofs.lemmas.List.Sums.{fails_before_first}
 use Rattle.std.proofs.lemmas.List.Quantifiers.{position-Some}
-use Rattle.fwd_chunks.specs.Earliest.{is_within, first_within}
+use Rattle.fwd_chunks.specs.MinTrees.{is_within, first_within}
 use Rattle.fwd_chunks.specs.Levels.{key_at}
 use Rattle.fwd_chunks.proofs.Descent.{IsFirst, NoneWithin, first-is}
 

@@ -22,8 +22,8 @@ use Rattle.std.specs.Prelude.{
 }
 use Rattle.fwd_chunks.specs.declared.chunk.Chunk.{Chunk}
 use Rattle.fwd_chunks.specs.declared.span.Span.{Span}
-use Rattle.fwd_chunks.specs.declared.stage.Stage.{Stage}
-use Rattle.fwd_chunks.specs.declared.stage.Stage.TheVariants.{Open, Closed}
+use Rattle.fwd_chunks.specs.declared.chunk_state.ChunkState.{ChunkState}
+use Rattle.fwd_chunks.specs.declared.chunk_state.ChunkState.TheVariants.{Open, Closed}
 use Rattle.fwd_chunks.specs.Cells.{size_of}
 use Rattle.fwd_chunks.specs.Live.{LiveBuffer, staged, changed, is_at, is_open_of, live_next_number}
 
@@ -61,12 +61,12 @@ fresh_of limit tag since number (e ∷ entries) =
     fresh_from limit tag since number (e ∷ []) entries
 
 -- where a chunk stands before the chunks of these entries
-abbrev pub stage_before : List (List ℕ) → Stage
+abbrev pub stage_before : List (List ℕ) → ChunkState
 stage_before [] = Open
 stage_before (e ∷ entries) = Closed
 
 -- where a chunk stands, which is closed where another one follows
-abbrev pub stage_last : Bool → Stage
+abbrev pub stage_last : Bool → ChunkState
 stage_last true = Open
 stage_last false = Closed
 
@@ -97,7 +97,7 @@ joining_to limit None entries = 0
 joining_to limit (Some c) entries = fitting limit (size_of c.entries) entries
 
 -- the open chunk with entries more, closed where others follow
-abbrev pub joined_by : List (List ℕ) → Stage → Chunk → Chunk
+abbrev pub joined_by : List (List ℕ) → ChunkState → Chunk → Chunk
 joined_by front stage c = record c { entries = c.entries ++ front; stage = stage }
 
 -- the chunks once entries went to the tag's open chunk, and others begin new ones
@@ -137,6 +137,6 @@ filled_spans b tag front back =
     ++ map span_of (fresh_of b.setting.limits.chunk tag b.moment (live_next_number b) back)
 
 -- the chunks once entries went to the open chunk of a number, if there is one
-abbrev pub filled_in : Option ℕ → List (List ℕ) → Stage → List Chunk → List Chunk
+abbrev pub filled_in : Option ℕ → List (List ℕ) → ChunkState → List Chunk → List Chunk
 filled_in None front stage chunks = chunks
 filled_in (Some number) front stage chunks = changed (is_at number) (joined_by front stage) chunks

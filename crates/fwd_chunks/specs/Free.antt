@@ -13,7 +13,7 @@ use Rattle.std.specs.Prelude.{
 use Rattle.fwd_retry.specs.Waits.{wait_after}
 use Rattle.fwd_retry.specs.declared.losses.Losses.{Losses}
 use Rattle.fwd_chunks.specs.declared.chunk.Chunk.{Chunk}
-use Rattle.fwd_chunks.specs.declared.stage.Stage.TheVariants.{Open, Taken}
+use Rattle.fwd_chunks.specs.declared.chunk_state.ChunkState.TheVariants.{Open, Taken}
 use Rattle.fwd_chunks.specs.Live.{LiveBuffer}
 
 -- a chunk of the buffer is free: it takes no more entries, no worker has it, and where it was lost

@@ -36,7 +36,7 @@ use Rattle.fwd_modes.specs.declared.origin.Origin.{Origin}
 use Rattle.fwd_chunks.specs.declared.limits.BufferLimits.{BufferLimits}
 use Rattle.fwd_chunks.specs.declared.flush.FlushKind.{FlushKind}
 use Rattle.fwd_chunks.specs.declared.flush.FlushKind.TheVariants.{Due, All}
-use Rattle.fwd_counts.specs.declared.counts.Counts.{Counts}
+use Rattle.fwd_base.specs.declared.counts.Counts.{Counts}
 use Rattle.fwd_chunks.specs.declared.span.Span.{Span}
 use Rattle.fwd_chunks.specs.declared.fault.AdmitError.{AdmitError}
 use Rattle.fwd_chunks.specs.declared.fault.AdmitError.TheVariants.{Full, NumbersSpent}
@@ -268,15 +268,15 @@ takes h worker now =
 -- ---- giving back
 
 -- what a worker has of a chunk: its number, its tag, its entries in order, and its name
-pub record Load : Type 0 where
+pub record CarriedChunk : Type 0 where
   pub number : ℕ
   pub tag : List ℕ
   pub entries : List (List ℕ)
   pub name : List ℕ
 
 -- the chunk of a number
-abbrev pub load_of : BufferHistory → ℕ → Load
-load_of h number = record {
+abbrev pub carried_chunk_of : BufferHistory → ℕ → CarriedChunk
+carried_chunk_of h number = record {
   number = number;
   tag = first_tag (cells_at number h.cells);
   entries = contents number h.cells;
@@ -284,9 +284,9 @@ load_of h number = record {
 }
 
 -- the chunk is one of this buffer, and a worker has it
-pub record IsCarried (h : BufferHistory) (load : Load) : Type 0 where
+pub record IsCarried (h : BufferHistory) (load : CarriedChunk) : Type 0 where
   pub carried : is_carried load.number h.carried ≡ true
-  pub same : load ≡ load_of h load.number
+  pub same : load ≡ carried_chunk_of h load.number
 
 -- a server acknowledged the number
 abbrev pub settles : BufferHistory → ℕ → BufferHistory

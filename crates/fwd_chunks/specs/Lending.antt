@@ -1,7 +1,7 @@
 -- Bytes that are lent, in pieces.
 use Rattle.std.specs.Prelude.{◌≡◌, ◌<◌, ◌-◌, ℕ, List, ◌++◌, length, take}
 use Rattle.std.specs.List.{concat, AllByRecursion}
-use Rattle.fwd_chunks.specs.declared.pieces.TheConstants.{PIECE_LIMIT}
+use Rattle.fwd_chunks.specs.declared.write_slices.TheConstants.{PIECE_LIMIT}
 
 -- each piece has a byte
 abbrev pub AreSome : List (List ℕ) → Type 0

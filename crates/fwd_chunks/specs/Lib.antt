@@ -16,10 +16,10 @@ pub mod Lending
 pub mod Endings
 -- These ten only describe how the code keeps chunks and fills them. No public clause speaks of
 -- them.
-pub mod Earliest
+pub mod MinTrees
 pub mod Levels
 pub mod Slots
-pub mod Shelved
+pub mod Slabs
 pub mod Newest
 pub mod Listing
 pub mod Stored
@@ -27,7 +27,7 @@ pub mod Filling
 pub mod Plans
 pub mod Runs
 -- Of the crates below, for those above.
-pub use Rattle.fwd_counts.specs.declared.counts.Counts
-pub use Rattle.fwd_counts.specs.declared.report.Report
-pub use Rattle.fwd_counts.specs.declared.tag_count.TagCount
+pub use Rattle.fwd_base.specs.declared.counts.Counts
+pub use Rattle.fwd_base.specs.declared.report.Report
+pub use Rattle.fwd_base.specs.declared.tag_count.TagCount
 pub use Rattle.fwd_retry.specs.Waits

@@ -1,6 +1,6 @@
 -- How the code lists what is held of each tag.
 use Rattle.std.specs.Prelude.{ℕ, ◌+◌, List, [], ◌∷◌, map, take, drop}
-use Rattle.fwd_counts.specs.declared.tag_count.TagCount.{TagCount}
+use Rattle.fwd_base.specs.declared.tag_count.TagCount.{TagCount}
 use Rattle.fwd_chunks.specs.declared.tag_entry.TagEntry.{TagEntry}
 use Rattle.fwd_chunks.specs.declared.tag_list.TagRow.{TagRow}
 

@@ -7,12 +7,12 @@ use Rattle.fwd_modes.specs.Frames.{chunk_name}
 use Rattle.fwd_chunks.specs.declared.flush.FlushKind.{FlushKind}
 use Rattle.fwd_chunks.specs.declared.flush.FlushKind.TheVariants.{Due, All}
 use Rattle.fwd_chunks.specs.declared.chunk.Chunk.{Chunk}
-use Rattle.fwd_counts.specs.declared.counts.Counts.{Counts}
+use Rattle.fwd_base.specs.declared.counts.Counts.{Counts}
 use Rattle.fwd_chunks.specs.declared.span.Span.{Span}
 use Rattle.fwd_chunks.specs.declared.fault.AdmitError.{AdmitError}
 use Rattle.fwd_chunks.specs.declared.fault.AdmitError.TheVariants.{Full, NumbersSpent}
-use Rattle.fwd_chunks.specs.declared.stage.Stage.{Stage}
-use Rattle.fwd_chunks.specs.declared.stage.Stage.TheVariants.{Open, Closed, Taken}
+use Rattle.fwd_chunks.specs.declared.chunk_state.ChunkState.{ChunkState}
+use Rattle.fwd_chunks.specs.declared.chunk_state.ChunkState.TheVariants.{Open, Closed, Taken}
 use Rattle.fwd_retry.specs.declared.losses.Losses.{Losses}
 use Rattle.fwd_retry.specs.Tallies.{tally_of, tally_more, live_is_over}
 use Rattle.fwd_chunks.specs.Cells.{
@@ -28,7 +28,7 @@ use Rattle.fwd_chunks.specs.Cells.{
   number_after,
   losses_of,
 }
-use Rattle.fwd_chunks.specs.History.{BufferSetting, BufferHistory, Load, unsettled, before_runs}
+use Rattle.fwd_chunks.specs.History.{BufferSetting, BufferHistory, CarriedChunk, unsettled, before_runs}
 use Rattle.fwd_chunks.specs.Events.{BufferEvent, Enter, Flush, Take, Settle, Free, unless_refused}
 
 -- ---- the live part
@@ -44,13 +44,13 @@ pub record LiveBuffer : Type 0 where
   pub moment : ℕ
 
 -- where a number stands, by whether it is open and by who has it
-abbrev pub stage_by : Bool → Option Carry → Stage
+abbrev pub stage_by : Bool → Option Carry → ChunkState
 stage_by true carry = Open
 stage_by false None = Closed
 stage_by false (Some carry) = Taken carry.worker
 
 -- where a number stands: it is open, or closed, or a worker has it
-abbrev pub stage_of : BufferHistory → ℕ → Stage
+abbrev pub stage_of : BufferHistory → ℕ → ChunkState
 stage_of h number =
     stage_by (has_number number h.opened) (find (λ c. c.number == number) h.carried)
 
@@ -90,22 +90,22 @@ live_opening setting = record {
 -- ---- chunks
 
 -- the chunk may take more
-abbrev pub is_open : Stage → Bool
+abbrev pub is_open : ChunkState → Bool
 is_open Open = true
 is_open _ = false
 
 -- the chunk waits for a worker
-abbrev pub is_closed : Stage → Bool
+abbrev pub is_closed : ChunkState → Bool
 is_closed Closed = true
 is_closed _ = false
 
 -- a worker has the chunk
-abbrev pub is_taken : Stage → Bool
+abbrev pub is_taken : ChunkState → Bool
 is_taken (Taken worker) = true
 is_taken _ = false
 
 -- the chunk, where it stands now
-abbrev pub staged : Stage → Chunk → Chunk
+abbrev pub staged : ChunkState → Chunk → Chunk
 staged stage c = record c { stage = stage }
 
 -- the chunk is another where the test holds
@@ -258,8 +258,8 @@ live_takes b worker now =
     live_carries_more worker (live_given (live_looks b now)) (live_looks b now)
 
 -- what a worker has of a chunk
-abbrev pub live_load : LiveBuffer → Chunk → Load
-live_load b c = record {
+abbrev pub live_carried_chunk : LiveBuffer → Chunk → CarriedChunk
+live_carried_chunk b c = record {
   number = c.number;
   tag = c.tag;
   entries = c.entries;
@@ -281,12 +281,12 @@ abbrev pub live_losses : LiveBuffer → ℕ → ℕ
 live_losses b number = losses_in (find (is_at number) b.chunks)
 
 -- what a worker has under a number, if one has it
-abbrev pub live_carried : LiveBuffer → ℕ → Option Load
+abbrev pub live_carried : LiveBuffer → ℕ → Option CarriedChunk
 live_carried b number =
-    option_map (live_load b) (find (λ c. is_at number c && is_taken c.stage) b.chunks)
+    option_map (live_carried_chunk b) (find (λ c. is_at number c && is_taken c.stage) b.chunks)
 
 -- the chunk is one of this buffer, and a worker has it
-abbrev pub IsCarried : LiveBuffer → Load → Type 0
+abbrev pub IsCarried : LiveBuffer → CarriedChunk → Type 0
 IsCarried b load = live_carried b load.number ≡ Some load
 
 -- the chunk of a number leaves, and its entries are settled

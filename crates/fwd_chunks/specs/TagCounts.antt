@@ -21,9 +21,9 @@ use Rattle.std.specs.List.Sorted.{IsStrictlySortedBy}
 use Rattle.std.specs.Str.{bytes_eq}
 use Rattle.std.specs.Ordering.{nat_cmp, is_lt}
 use Rattle.std.specs.Cmp.Lexicographic.{slice_cmp}
-use Rattle.fwd_counts.specs.declared.counts.Counts.{Counts}
-use Rattle.fwd_counts.specs.declared.report.Report.{Report}
-use Rattle.fwd_counts.specs.declared.tag_count.TagCount.{TagCount}
+use Rattle.fwd_base.specs.declared.counts.Counts.{Counts}
+use Rattle.fwd_base.specs.declared.report.Report.{Report}
+use Rattle.fwd_base.specs.declared.tag_count.TagCount.{TagCount}
 use Rattle.fwd_chunks.specs.declared.chunk.Chunk.{Chunk}
 use Rattle.fwd_chunks.specs.Cells.{Cell, size_of}
 use Rattle.fwd_chunks.specs.History.{BufferHistory, unsettled, counts}

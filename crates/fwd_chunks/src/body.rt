@@ -21,10 +21,10 @@ ghost use Rattle.fwd_chunks.specs.Parts.{entries_in};
 ghost use Rattle.fwd_chunks.specs.Pieces.{parts_left};
 ghost use Rattle.fwd_chunks.specs.Endings.{ends_left};
 
-use crate::part::Part;
-use crate::parts::{Ends, Parts};
-use crate::slices::Slices;
-use crate::unsent::Unsent;
+use crate::body_parts::{BodyParts, EntryEnds};
+use crate::entry_range::EntryRange;
+use crate::entry_slices::EntrySlices;
+use crate::send_cursor::SendCursor;
 use std::alloc::{AllocError, Global};
 use std::marker::Model;
 use std::sync::Arc;
@@ -33,7 +33,7 @@ use std::sync::Arc;
 /// what was acknowledged share the list of them, so that none of them copies an entry.
 #[derive(Drop)]
 pub struct Body {
-    slices: Arc<Slices>,
+    slices: Arc<EntrySlices>,
 }
 
 impl Model for Body {
@@ -48,11 +48,11 @@ impl Model for Body {
 
 impl Body {
     /// These entries.
-    pub(crate) fn of(alloc: Global, part: Part<'_>) -> Result<Self, AllocError>
+    pub(crate) fn of(alloc: Global, part: EntryRange<'_>) -> Result<Self, AllocError>
         requires { size_of (entries_in part) < 2 ^ 32 }
         ensures { IfOk result (λ body. body ≡ entries_in part.entry) }
     {
-        let mut slices = Slices::new(alloc);
+        let mut slices = EntrySlices::new(alloc);
         slices.extend(part)?;
         match Arc::new(alloc, slices) {
             Ok(slices) => Ok(Body { slices }),
@@ -62,27 +62,27 @@ impl Body {
 
     /// The entries' bytes, in the pieces that they lie in, in order. Joined they are less than 2^32
     /// bytes, and each piece has one.
-    pub fn parts(&self) -> Parts<'_>
+    pub fn parts(&self) -> BodyParts<'_>
         ensures joined { concat (parts_left result) ≡ concat self.now }
         ensures full { AreFull (parts_left result) }
     {
-        Parts::new(self.slices.as_slice())
+        BodyParts::new(self.slices.as_slice())
     }
 
     /// Where each entry ends, in bytes from the front of the first.
-    pub fn ends(&self) -> Ends<'_>
+    pub fn ends(&self) -> EntryEnds<'_>
         ensures { ends_left result ≡ ends_of self.now }
     {
         let _size = self.slices.size();
-        Ends::new(self.slices.iter())
+        EntryEnds::new(self.slices.iter())
     }
 
     /// All its bytes, to be sent. The only error is out of memory, and it is answered only where
     /// there are more owners than can be counted.
-    pub fn unsent(&self) -> Result<Unsent, AllocError>
+    pub fn unsent(&self) -> Result<SendCursor, AllocError>
         ensures { IfOk result (λ unsent. unsent ≡ concat self.now) }
     {
-        Ok(Unsent::new(Arc::try_clone(&self.slices)?))
+        Ok(SendCursor::new(Arc::try_clone(&self.slices)?))
     }
 
     /// How many entries there are.
@@ -101,7 +101,7 @@ impl Body {
     }
 
     /// Adds entries at the end, or changes nothing. Other owners do not see them.
-    pub(crate) fn extend(&mut self, part: Part<'_>) -> Result<(), AllocError>
+    pub(crate) fn extend(&mut self, part: EntryRange<'_>) -> Result<(), AllocError>
         requires { size_of self.old + size_of (entries_in part) < 2 ^ 32 }
         ensures ok { OnOk result (self.new ≡ self.old ++ entries_in part.entry) }
         ensures err { OnErr result (self.new ≡ self.old) }

@@ -46,7 +46,7 @@ ghost use Rattle.fwd_chunks.specs.Live.{
   live_flushes,
   live_given,
   live_takes,
-  live_load,
+  live_carried_chunk,
   live_losses,
   live_settles,
   live_frees,
@@ -58,18 +58,18 @@ ghost use Rattle.fwd_chunks.specs.TagCounts.{live_report, IsSnapshot};
 
 use crate::carried::Carried;
 use crate::chunk::Chunk;
+use crate::chunk_index::ChunkIndex;
+use crate::chunk_state::ChunkState;
 use crate::entering;
+use crate::entry_range::EntryRange;
 use crate::fault::AdmitError;
 use crate::flush::FlushKind;
 use crate::limits::BufferLimits;
-use crate::part::Part;
 use crate::plan::Plan;
-use crate::slots::Slots;
 use crate::snapshot::Snapshot;
 use crate::spans::Spans;
-use crate::stage::Stage;
 use crate::tags::Tags;
-use fwd_counts::{Counts, Report};
+use fwd_base::{Counts, Report};
 use fwd_modes::{Batch, Origin, TAG_LIMIT, chunk_name};
 use fwd_retry::Retry;
 use std::alloc::{AllocError, Global};
@@ -81,7 +81,7 @@ pub struct Buffer {
     limits: BufferLimits,
     run: [u8; 6],
     output: u16,
-    slots: Slots,
+    slots: ChunkIndex,
     /// What is held of each tag, and the number of its newest chunk.
     tags: Tags,
     accepted: u64,
@@ -147,7 +147,7 @@ impl Buffer {
             limits,
             run,
             output,
-            slots: Slots::new(alloc, retry),
+            slots: ChunkIndex::new(alloc, retry),
             tags: Tags::new(alloc),
             accepted: 0,
             settled: 0,
@@ -219,7 +219,7 @@ impl Buffer {
         ensures { IsPlan self.now batch.now result }
     {
         let limit = u64::from(self.limits.chunk);
-        let part = Part::whole(batch);
+        let part = EntryRange::whole(batch);
         let (joins, key, count) = match self.open_of(batch.tag()) {
             None => (None, 0, 0),
             Some((chunk, key)) => {
@@ -406,9 +406,14 @@ impl Buffer {
     }
 
     /// What a worker has of the chunk, which lies at the key.
-    fn load_of(&self, alloc: Global, chunk: &Chunk, key: usize) -> Result<Carried, AllocError>
+    fn carried_chunk_of(
+        &self,
+        alloc: Global,
+        chunk: &Chunk,
+        key: usize,
+    ) -> Result<Carried, AllocError>
         requires { length chunk.now.tag ≤ TAG_LIMIT }
-        ensures { IfOk result (λ load. load ≡ live_load self.now chunk.now) }
+        ensures { IfOk result (λ load. load ≡ live_carried_chunk self.now chunk.now) }
     {
         Ok(Carried::new(
             chunk.number,
@@ -423,11 +428,11 @@ impl Buffer {
     /// the key.
     fn give(&mut self, number: u64, key: usize, worker: u16, moment: u64)
         ensures { self.new ≡ record self.old {
-          chunks = changed (is_at number) (staged (Stage.Taken worker)) self.old.chunks;
+          chunks = changed (is_at number) (staged (ChunkState.Taken worker)) self.old.chunks;
           moment = moment;
         } }
     {
-        self.slots.stage(number, key, Stage::Taken(worker));
+        self.slots.stage(number, key, ChunkState::Taken(worker));
         self.moment = moment;
     }
 
@@ -440,7 +445,8 @@ impl Buffer {
         now: u64,
     ) -> Result<Option<Carried>, AllocError>
         ensures given { IfOk result (λ carried.
-            carried ≡ option_map (live_load self.old) (live_given (live_looks self.old now))) }
+            carried ≡ option_map (live_carried_chunk self.old)
+            (live_given (live_looks self.old now))) }
         ensures ok { OnOk result (self.new ≡ live_takes self.old worker now) }
         ensures err { OnErr result (self.new ≡ self.old) }
 
@@ -453,7 +459,7 @@ impl Buffer {
             return Ok(None);
         };
         let number = chunk.number;
-        let carried = self.load_of(alloc, chunk, key)?;
+        let carried = self.carried_chunk_of(alloc, chunk, key)?;
         self.give(number, key, worker, moment);
         Ok(Some(carried))
     }

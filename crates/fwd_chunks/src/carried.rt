@@ -5,8 +5,8 @@ ghost use Rattle.fwd_chunks.specs.Pieces.{parts_left};
 ghost use Rattle.fwd_chunks.specs.Endings.{ends_left};
 
 use crate::body::Body;
+use crate::body_parts::{BodyParts, EntryEnds};
 use crate::chunk::Chunk;
-use crate::parts::{Ends, Parts};
 use fwd_base::Bytes;
 use fwd_modes::TAG_LIMIT;
 use std::marker::Model;
@@ -24,9 +24,9 @@ pub struct Carried {
 }
 
 impl Model for Carried {
-    ghost use Rattle.fwd_chunks.specs.History.{Load};
+    ghost use Rattle.fwd_chunks.specs.History.{CarriedChunk};
 
-    ghost Value = { Load };
+    ghost Value = { CarriedChunk };
 
     ghost use Rattle.std.specs.Prelude.{◌≤◌, length};
     ghost use Rattle.fwd_modes.specs.declared.limits.TheConstants.{TAG_LIMIT};
@@ -69,7 +69,7 @@ impl Carried {
 
     /// The entries as they are kept, one after the other, in the pieces that they lie in: less than
     /// 2^32 bytes, and each piece has one.
-    pub fn parts(&self) -> Parts<'_>
+    pub fn parts(&self) -> BodyParts<'_>
         ensures joined { concat (parts_left result) ≡ concat self.now.entries }
         ensures full { AreFull (parts_left result) }
     {
@@ -77,7 +77,7 @@ impl Carried {
     }
 
     /// Where each entry ends, in bytes from the front of the first.
-    pub fn ends(&self) -> Ends<'_>
+    pub fn ends(&self) -> EntryEnds<'_>
         ensures { ends_left result ≡ ends_of self.now.entries }
     {
         self.entries.ends()

@@ -2,7 +2,7 @@ ghost use Rattle.std.specs.Prelude.{◌≡◌};
 ghost use Rattle.fwd_chunks.specs.Live.{is_taken, is_open_of};
 
 use crate::body::Body;
-use crate::stage::Stage;
+use crate::chunk_state::ChunkState;
 use fwd_base::Bytes;
 use fwd_retry::Losses;
 
@@ -16,7 +16,7 @@ pub(crate) struct Chunk {
     /// The moment of its first entry.
     pub(crate) since: u64,
     /// Where it stands.
-    pub(crate) stage: Stage,
+    pub(crate) stage: ChunkState,
     /// How often it was lost, and when last; nothing where it was not.
     pub(crate) losses: Option<Losses>,
 }
@@ -26,13 +26,13 @@ impl Chunk {
     pub(crate) fn is_taken(&self) -> bool
         ensures { result ≡ is_taken self.now.stage }
     {
-        matches!(self.stage, Stage::Taken(_))
+        matches!(self.stage, ChunkState::Taken(_))
     }
 
     /// Whether the chunk is open, and of the tag.
     pub(crate) fn is_open_of(&self, tag: &[u8]) -> bool
         ensures { result ≡ is_open_of tag.now self.now }
     {
-        matches!(self.stage, Stage::Open) && self.tag.as_slice() == tag
+        matches!(self.stage, ChunkState::Open) && self.tag.as_slice() == tag
     }
 }

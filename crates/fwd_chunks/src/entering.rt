@@ -41,12 +41,12 @@ ghost use Rattle.fwd_chunks.specs.Parts.{entries_in};
 
 use crate::body::Body;
 use crate::chunk::Chunk;
-use crate::part::Part;
+use crate::chunk_index::ChunkIndex;
+use crate::chunk_state::stage_of;
+use crate::entry_range::EntryRange;
 use crate::plan::Plan;
-use crate::slots::Slots;
 use crate::span::Span;
 use crate::spans::Spans;
-use crate::stage::stage_of;
 use fwd_base::{Bytes, Seq};
 use std::alloc::{AllocError, Global};
 
@@ -55,7 +55,7 @@ fn new_chunk(
     alloc: Global,
     number: u64,
     tag: &[u8],
-    part: Part<'_>,
+    part: EntryRange<'_>,
     since: u64,
     last: bool,
 ) -> Result<Chunk, AllocError>
@@ -83,7 +83,7 @@ fn new_chunk(
 pub(crate) fn fresh_chunks(
     alloc: Global,
     tag: &[u8],
-    part: Part<'_>,
+    part: EntryRange<'_>,
     limit: u64,
     since: u64,
     first: u64,
@@ -118,7 +118,7 @@ pub(crate) fn newest_of(first: u64, needed: u64) -> Option<u64>
 }
 
 /// The run of the entries that go to an open chunk, if there are some.
-pub(crate) fn joined_span(chunk: Option<&Chunk>, front: Part<'_>) -> Option<Span>
+pub(crate) fn joined_span(chunk: Option<&Chunk>, front: EntryRange<'_>) -> Option<Span>
     ensures { option_to_list result
         ≡ joined_span (option_copied chunk.entry) (entries_in front.entry) }
 {
@@ -181,7 +181,7 @@ pub(crate) fn spans_of(
 /// Entries go to the open chunk of a number, if there is one, and new chunks come behind all, into
 /// room that is there. Answers the key of the last of them. On an error nothing has changed.
 pub(crate) fn fill(
-    slots: &mut Slots,
+    slots: &mut ChunkIndex,
     plan: Plan<'_>,
     fresh: Vec<Chunk>,
 ) -> Result<usize, AllocError>

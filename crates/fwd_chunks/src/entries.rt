@@ -3,22 +3,22 @@
 ghost use Rattle.std.specs.Prelude.{◌≡◌, ◌↔◌, IsTrue};
 ghost use Rattle.fwd_chunks.specs.Rows.{joined};
 
-use crate::part::Part;
-use crate::slice::Slice;
+use crate::entry_range::EntryRange;
+use crate::entry_slice::EntrySlice;
 
 /// The entries of a chunk, one by one, each as it is kept.
 #[derive(Clone, Copy)]
 pub struct BodyEntries<'a> {
     /// Those of a slice that was begun.
-    part: Option<Part<'a>>,
-    slices: &'a [Slice],
+    part: Option<EntryRange<'a>>,
+    slices: &'a [EntrySlice],
 }
 
 impl<'a> BodyEntries<'a> {
     ghost use Rattle.fwd_chunks.specs.Pieces.{body_entries_left};
 
     /// The entries of these slices.
-    pub(crate) fn new(slices: &'a [Slice]) -> Self
+    pub(crate) fn new(slices: &'a [EntrySlice]) -> Self
         ensures { body_entries_left result ≡ joined slices.now }
     {
         BodyEntries { part: None, slices }

@@ -24,7 +24,7 @@ ghost use Rattle.fwd_chunks.specs.declared.flush.FlushKind.{FlushKind};
 ghost use Rattle.fwd_chunks.specs.Cells.{is_carried};
 ghost use Rattle.fwd_chunks.specs.declared.span.Span.{Span};
 ghost use Rattle.fwd_chunks.specs.History.{
-  Load,
+  CarriedChunk,
   BufferSetting,
   BufferHistory,
   opening,
@@ -35,7 +35,7 @@ ghost use Rattle.fwd_chunks.specs.History.{
   looks,
   given,
   IsGiven,
-  load_of,
+  carried_chunk_of,
   counts,
 };
 ghost use Rattle.fwd_chunks.specs.Events.{
@@ -60,7 +60,7 @@ ghost use Rattle.fwd_chunks.specs.Live.{
   live_flushes,
   live_given,
   live_takes,
-  live_load,
+  live_carried_chunk,
   live_carried,
   live_settles,
   live_frees,
@@ -104,12 +104,12 @@ pub fn live_answers()
     ensures given { (setting : BufferSetting) (h : BufferHistory)
         → setting.limits.retry_max < 2 ^ 64 →
         IsReached setting h
-        → option_map (load_of h) (given h)
-        ≡ option_map (live_load (live_buffer h)) (live_given (live_buffer h)) }
+        → option_map (carried_chunk_of h) (given h)
+        ≡ option_map (live_carried_chunk (live_buffer h)) (live_given (live_buffer h)) }
     ensures carried { (setting : BufferSetting) (h : BufferHistory) (number : ℕ)
         → IsReached setting h →
         live_carried (live_buffer h) number
-        ≡ (if is_carried number h.carried then Some (load_of h number) else None) }
+        ≡ (if is_carried number h.carried then Some (carried_chunk_of h number) else None) }
     ensures counts { (h : BufferHistory) → counts h ≡ live_counts (live_buffer h) }
 {}
 
@@ -169,7 +169,7 @@ pub fn spans_are_held()
         AreRising (map (λ s. s.number) (live_spans b r now)) }
     ensures held { (b : LiveBuffer) (r : Request) (now : ℕ) → IsSound b →
         AreHeld (live_enters b r now).chunks r.tag (live_spans b r now) r.entries }
-    ensures carried { (b : LiveBuffer) (load : Load) (tag : List ℕ) (s : Span)
+    ensures carried { (b : LiveBuffer) (load : CarriedChunk) (tag : List ℕ) (s : Span)
         (own : List (List ℕ)) → IsSound b → IsCarried b load → s.number ≡ load.number →
         IsHeld b.chunks tag s own
         → (load.tag ≡ tag) × (run_in load.entries s ≡ take s.count own) }
@@ -193,7 +193,7 @@ pub fn held_stays()
     ensures settles { (b : LiveBuffer) (number : ℕ) (tag : List ℕ) (s : Span)
         (own : List (List ℕ)) → s.number ≢ number → IsHeld b.chunks tag s own →
         IsHeld (live_settles b number).chunks tag s own }
-    ensures gone { (b : LiveBuffer) (load : Load) → IsSound b → IsCarried b load →
+    ensures gone { (b : LiveBuffer) (load : CarriedChunk) → IsSound b → IsCarried b load →
         IsGone (live_settles b load.number) load.number }
     ensures gone_enters { (b : LiveBuffer) (r : Request) (now n : ℕ) → IsSound b → IsGone b n →
         IsGone (live_enters b r now) n }

@@ -4,49 +4,49 @@
 #![tactic(auto)]
 
 mod body;
+mod body_parts;
 mod buffer;
 mod carried;
 mod chunk;
-mod earliest;
+mod chunk_index;
+mod chunk_slab;
+mod chunk_state;
 mod entering;
 mod entries;
+mod entry_range;
+mod entry_slice;
+mod entry_slices;
 mod fault;
 mod flush;
-mod keys;
 mod laws;
 mod limits;
-mod part;
-mod parts;
-mod pieces;
+mod min_tree;
 mod plan;
-mod shelf;
-mod slice;
-mod slices;
-mod slots;
+mod ready_index;
+mod send_cursor;
 mod snapshot;
 mod span;
 mod spans;
-mod stage;
 mod tag_entry;
 mod tag_list;
 mod tags;
-mod unsent;
+mod write_slices;
 
 pub use body::Body;
+pub use body_parts::{BodyParts, EntryEnds};
 pub use buffer::Buffer;
 pub use carried::Carried;
 pub use entries::BodyEntries;
 pub use fault::AdmitError;
 pub use flush::FlushKind;
-pub use fwd_counts::{Counts, Report, TagCount};
+pub use fwd_base::{Counts, Report, TagCount};
 pub use laws::{
     given_is_least, held_stays, live_answers, live_follows, live_given_is_least, numbers_rise,
     reached_is_sound, spans_are_held, tags_add_up,
 };
 pub use limits::BufferLimits;
-pub use parts::{Ends, Parts};
-pub use pieces::{PIECE_LIMIT, Pieces};
+pub use send_cursor::SendCursor;
 pub use snapshot::Snapshot;
 pub use span::Span;
 pub use spans::Spans;
-pub use unsent::Unsent;
+pub use write_slices::{PIECE_LIMIT, WriteSlices};

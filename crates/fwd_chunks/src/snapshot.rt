@@ -5,7 +5,7 @@ ghost use Rattle.fwd_chunks.specs.Live.{LiveBuffer};
 ghost use Rattle.fwd_chunks.specs.TagCounts.{live_report, IsSnapshot};
 
 use crate::tag_list::TagList;
-use fwd_counts::{Counts, Report};
+use fwd_base::{Counts, Report};
 use std::alloc::{AllocFailed, Global};
 use std::marker::Model;
 

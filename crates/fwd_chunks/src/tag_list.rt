@@ -3,8 +3,7 @@
 ghost use Rattle.std.specs.Prelude.{◌≡◌, ◌++◌, ◌∷◌, [], List, OnOk, OnErr, IfOk};
 ghost use Rattle.fwd_chunks.specs.TagCounts.{Tagged, tag_counts, AreTagCounts};
 
-use fwd_base::{Bytes, Seq};
-use fwd_counts::TagCount;
+use fwd_base::{Bytes, Seq, TagCount};
 use std::alloc::{AllocError, Global};
 use std::marker::Model;
 
@@ -42,7 +41,7 @@ pub(crate) struct TagList {
 
 impl Model for TagList {
     ghost use Rattle.std.specs.Prelude.{◌≡◌, List, length};
-    ghost use Rattle.fwd_counts.specs.declared.tag_count.TagCount.{TagCount};
+    ghost use Rattle.fwd_base.specs.declared.tag_count.TagCount.{TagCount};
     ghost use Rattle.fwd_chunks.specs.Listing.{unpacked, names_len};
 
     ghost Value = { List TagCount };

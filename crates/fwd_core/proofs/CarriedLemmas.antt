@@ -7,7 +7,7 @@ use Rattle.std.specs.Str.{bytes_eq}
 use Rattle.std.proofs.lemmas.Bool.Decides.{Decides-eqb}
 use Rattle.std.proofs.lemmas.Option.{none-some, same_Some}
 use Rattle.std.proofs.lemmas.Slice.Eq.{bytes_eq-Decides, slice_eq-Decides}
-use Rattle.fwd_chunks.specs.History.{Load}
+use Rattle.fwd_chunks.specs.History.{CarriedChunk}
 use Rattle.fwd_chunks.specs.Live.{LiveBuffer, IsCarried, live_carried}
 
 -- what is tested holds, or does not
@@ -25,7 +25,7 @@ both_or (inl p) (inr not) = inr (λ b. not b.1)
 both_or (inr not) q = inr (λ b. not b.0)
 
 -- chunks that workers have are one, or are not
-same-load : (a b : Load) → (a ≡ b) ⊎ (¬ (a ≡ b))
+same-load : (a b : CarriedChunk) → (a ≡ b) ⊎ (¬ (a ≡ b))
 same-load a b =
     whole (both_or (tested (a.number == b.number) (Decides-eqb a.number b.number))
     (both_or (tested (bytes_eq a.tag b.tag) (bytes_eq-Decides a.tag b.tag))
@@ -37,13 +37,13 @@ same-load a b =
 
     whole : Parts ⊎ (¬ Parts) → (a ≡ b) ⊎ (¬ (a ≡ b))
     whole (inl p) = inl (λ i. record { number = p.0 i; tag = p.1.0 i; entries = p.1.1.0 i; name = p.1.1.1 i })
-    whole (inr not) = inr (λ e. not (ap (λ (l : Load). l.number) e, (ap (λ (l : Load). l.tag) e, (ap (λ (l : Load). l.entries) e, ap (λ (l : Load). l.name) e))))
+    whole (inr not) = inr (λ e. not (ap (λ (l : CarriedChunk). l.number) e, (ap (λ (l : CarriedChunk). l.tag) e, (ap (λ (l : CarriedChunk). l.entries) e, ap (λ (l : CarriedChunk). l.name) e))))
 
 -- a worker has the chunk from this buffer, or none has
-pub carried-or : (b : LiveBuffer) (load : Load) → IsCarried b load ⊎ (¬ (IsCarried b load))
+pub carried-or : (b : LiveBuffer) (load : CarriedChunk) → IsCarried b load ⊎ (¬ (IsCarried b load))
 carried-or b load = by (live_carried b load.number)
   where
-    by : (o : Option Load) → (o ≡ Some load) ⊎ (¬ (o ≡ Some load))
+    by : (o : Option CarriedChunk) → (o ≡ Some load) ⊎ (¬ (o ≡ Some load))
     by None = inr (λ e. none-some load e)
     by (Some d) = found (same-load d load)
       where

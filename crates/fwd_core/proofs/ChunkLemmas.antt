@@ -4,7 +4,7 @@ use Rattle.std.proofs.Math.ListN.{set}
 use Rattle.std.specs.Prelude.{map, slice_get, ◌==◌}
 use Rattle.std.specs.List.{AllByRecursion}
 use Rattle.std.proofs.lemmas.Bool.Decides.{nat_tests}
-use Rattle.fwd_chunks.specs.History.{Load}
+use Rattle.fwd_chunks.specs.History.{CarriedChunk}
 use Rattle.fwd_session.specs.Live.{LiveSession}
 use Rattle.fwd_session.proofs.Lists.{all_append}
 use Rattle.fwd_model.specs.Layers.{Worker}
@@ -35,19 +35,19 @@ all_both P Q R (x ∷ xs) goes all its = (goes x all.0 its.0, all_both P Q R xs 
 
 -- ---- how often a number stands
 
-pub times-append : (n : ℕ) (cs ds : List Load) → times n (cs ++ ds) ≡ times n cs + times n ds
+pub times-append : (n : ℕ) (cs ds : List CarriedChunk) → times n (cs ++ ds) ≡ times n cs + times n ds
 times-append n [] ds = omega arith
 times-append n (c ∷ cs) ds = grind (arith, nat_tests, times-append n cs ds)
 
 -- the number of a first chunk stands once more
-pub times-first : (c : Load) (cs : List Load) → times c.number (c ∷ cs) ≡ suc (times c.number cs)
+pub times-first : (c : CarriedChunk) (cs : List CarriedChunk) → times c.number (c ∷ cs) ≡ suc (times c.number cs)
 times-first c cs = grind (arith, nat_tests)
 
-pub times-more : (n : ℕ) (c : Load) (cs : List Load) → times n cs ≤ times n (c ∷ cs)
+pub times-more : (n : ℕ) (c : CarriedChunk) (cs : List CarriedChunk) → times n cs ≤ times n (c ∷ cs)
 times-more n c cs = grind (arith, nat_tests)
 
 -- where each has another number, it stands nowhere; and where it stands nowhere, each has another
-pub times-none : (n : ℕ) (cs : List Load) → AllByRecursion (λ c. c.number ≢ n) cs
+pub times-none : (n : ℕ) (cs : List CarriedChunk) → AllByRecursion (λ c. c.number ≢ n) cs
     → times n cs ≡ 0
 times-none n [] all = refl
 times-none n (c ∷ cs) all = by (c.number == n) refl (times-none n cs all.1)
@@ -57,7 +57,7 @@ times-none n (c ∷ cs) all = by (c.number == n) refl (times-none n cs all.1)
     by true e rest = absurd (all.0 (grind (arith, nat_tests, e)))
     by false e rest = rest
 
-pub times-others : (n : ℕ) (cs : List Load) → times n cs ≡ 0
+pub times-others : (n : ℕ) (cs : List CarriedChunk) → times n cs ≡ 0
     → AllByRecursion (λ c. n ≢ c.number) cs
 times-others n [] none = tt
 times-others n (c ∷ cs) none = by (c.number == n) refl none (λ e. times-others n cs e)
@@ -73,7 +73,7 @@ times-others n (c ∷ cs) none = by (c.number == n) refl none (λ e. times-other
     by false e f rest = (λ same. differ (c.number == n) e (grind (arith, nat_tests, same)), rest f)
 
 -- each chunk's number stands
-pub times-each : (cs : List Load) → AllByRecursion (λ c. 1 ≤ times c.number cs) cs
+pub times-each : (cs : List CarriedChunk) → AllByRecursion (λ c. 1 ≤ times c.number cs) cs
 times-each [] = tt
 times-each (c ∷ cs) = (
   omega (arith, times-first c cs),
@@ -102,7 +102,7 @@ times-at n zero (z ∷ ws) x h =
 times-at n (suc place) (z ∷ ws) x h =
     omega (arith, times-append n (chunks_at z) (chunks_of ws), times-at n place ws x h)
 
-pub all-at : (P : Load → Type 0) (place : ℕ) (ws : List (Worker LiveSession))
+pub all-at : (P : CarriedChunk → Type 0) (place : ℕ) (ws : List (Worker LiveSession))
     (x : Worker LiveSession)
     → slice_get ws place ≡ Some x → AllByRecursion P (chunks_of ws) → AllByRecursion P (chunks_at x)
 all-at P place [] x h all = absurd cc
@@ -112,7 +112,7 @@ all-at P zero (z ∷ ws) x h all =
 all-at P (suc place) (z ∷ ws) x h all =
     all-at P place ws x h (all_back P (chunks_at z) (chunks_of ws) all)
 
-pub all-set : (P : Load → Type 0) (place : ℕ) (ws : List (Worker LiveSession))
+pub all-set : (P : CarriedChunk → Type 0) (place : ℕ) (ws : List (Worker LiveSession))
     (y : Worker LiveSession)
     → AllByRecursion P (chunks_of ws) → AllByRecursion P (chunks_at y)
     → AllByRecursion P (chunks_of (set ws place y))

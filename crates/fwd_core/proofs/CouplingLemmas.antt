@@ -10,13 +10,13 @@ use Rattle.fwd_modes.specs.declared.origin.Origin.{Origin}
 use Rattle.fwd_chunks.specs.declared.chunk.Chunk.{Chunk}
 use Rattle.fwd_chunks.specs.declared.flush.FlushKind.{FlushKind}
 use Rattle.fwd_chunks.specs.declared.span.Span.{Span}
-use Rattle.fwd_chunks.specs.History.{BufferSetting, Load}
+use Rattle.fwd_chunks.specs.History.{BufferSetting, CarriedChunk}
 use Rattle.fwd_chunks.specs.Live.{LiveBuffer, IsCarried, is_at, live_opening, live_looks, live_enters, live_spans, live_flushes, live_takes, live_is_free, live_carries_more, live_frees, live_settles}
 use Rattle.fwd_chunks.specs.Soundness.{IsSound}
 use Rattle.fwd_chunks.specs.Spans.{run_in, IsHeld, AreHeld, IsGone}
 use Rattle.fwd_chunks.proofs.Holding.{Stays, flushes-stays, takes-stays, frees-stays, settles-held, settles-gone, settled-gone, enters-held, enters-gone, spans-held, carried-run, carried-found}
 use Rattle.fwd_chunks.proofs.Sounding.{adds_all-added, sorted}
-use Rattle.fwd_session.specs.Evidence.{Evidence, IsEvidence}
+use Rattle.fwd_session.specs.ServerAcks.{ServerAck, IsServerAck}
 use Rattle.fwd_book.specs.History.{Entered, entered_as, evidence_of, has_run, are_fresh}
 use Rattle.fwd_book.specs.Live as kept
 use Rattle.fwd_book.specs.Live.{LiveBook, HasItsRuns, IsOf, evidence_for, live_drops}
@@ -39,7 +39,7 @@ opening-coupled setting =
 
 -- ---- the chunks stand elsewhere
 
-waiting-held : (more less : List Chunk) (settled : List Evidence) (tag : List ℕ) (spans : List Span)
+waiting-held : (more less : List Chunk) (settled : List ServerAck) (tag : List ℕ) (spans : List Span)
     (own : List (List ℕ))
     → ((s : Span) (rest : List (List ℕ)) → IsHeld less tag s rest → IsHeld more tag s rest)
     → AreWaiting less settled tag spans own → AreWaiting more settled tag spans own
@@ -91,7 +91,7 @@ enters-setting : (b : LiveBuffer) (r : Request) (now : ℕ) → IsSound b
     → (live_enters b r now).setting ≡ b.setting
 enters-setting b r now sound = (adds_all-added r.entries (live_looks b now) r.tag (sorted b now sound)).setting
 
-held-waiting : (chunks : List Chunk) (settled : List Evidence) (tag : List ℕ) (spans : List Span)
+held-waiting : (chunks : List Chunk) (settled : List ServerAck) (tag : List ℕ) (spans : List Span)
     (own : List (List ℕ)) → AreHeld chunks tag spans own → AreWaiting chunks settled tag spans own
 held-waiting chunks settled tag [] own h = tt
 held-waiting chunks settled tag (s ∷ spans) own h = (λ none. h.0, held-waiting chunks settled tag spans (drop s.count own) h.1)
@@ -112,8 +112,8 @@ pub comes-fresh : (b : LiveBuffer) (k : LiveBook) (r : Request) (now : ℕ) → 
     → IsCoupled b k → are_fresh k.settled (live_spans b r now) ≡ true
 comes-fresh b k r now sound own = ap not (none k.settled (λ j e at. own.gone j e at))
   where
-    none : (es : List Evidence)
-        → ((j : ℕ) (e : Evidence) → slice_get es j ≡ Some e → IsGone b e.number)
+    none : (es : List ServerAck)
+        → ((j : ℕ) (e : ServerAck) → slice_get es j ≡ Some e → IsGone b e.number)
         → list_any (λ e. list_any (λ s. s.number == e.number) (live_spans b r now)) es ≡ false
     none [] gone = refl
     none (e ∷ es) gone =
@@ -161,7 +161,7 @@ has-run (r ∷ qs) (suc i) q s at has = by (has_run s.number r) (has-run qs i q 
     by false rest = rest
 
 -- what waits of a request, seen by what is acknowledged afterwards
-waiting-then : (more less : List Chunk) (old new : List Evidence) (tag : List ℕ) (all : List Span)
+waiting-then : (more less : List Chunk) (old new : List ServerAck) (tag : List ℕ) (all : List Span)
     (spans : List Span) (own : List (List ℕ))
     → ((s : Span) → list_any (λ x. x.number == s.number) all ≡ true → evidence_of new s.number
     ≡ None
@@ -182,7 +182,7 @@ waiting-then more less old new tag all (s ∷ spans) own stays within w = (
     later true c e = refl
     later false c e = e
 
-pub settles-coupled : (b : LiveBuffer) (k : LiveBook) (e : Evidence) (load : Load) → IsSound b
+pub settles-coupled : (b : LiveBuffer) (k : LiveBook) (e : ServerAck) (load : CarriedChunk) → IsSound b
     → IsCarried b load → e.number ≡ load.number → IsCoupled b k
     → IsCoupled (live_settles b load.number) (kept.live_settles k e)
 settles-coupled b k e load sound is same own = record {
@@ -196,7 +196,7 @@ settles-coupled b k e load sound is same own = record {
       by d (in_both k.settled (e ∷ []) there.0 d there.1);
 }
   where
-    now : List Evidence
+    now : List ServerAck
     now = (kept.live_settles k e).settled
 
     -- nothing is found, neither before nor now
@@ -207,7 +207,7 @@ settles-coupled b k e load sound is same own = record {
         sym (find-append (λ d. d.number == s.number) k.settled (e ∷ []))
         ∙ sym (for-found (evidence_of (k.settled ++ e ∷ [])) k.requests s.number (numbered (k.settled ++ e ∷ [])) used) ∙ none
 
-    neither : (o p : Option Evidence) → option_or o p ≡ None → (o ≡ None) × (p ≡ None)
+    neither : (o p : Option ServerAck) → option_or o p ≡ None → (o ≡ None) × (p ≡ None)
     neither None p f = (refl, f)
     neither (Some x) p f = absurd cc
 
@@ -221,15 +221,15 @@ settles-coupled b k e load sound is same own = record {
         let here : (e.number == s.number) ≡ true = eq-eqb e.number s.number (same ∙ sym f) in
         none_some (sym (neither (evidence_of k.settled s.number) (evidence_of (e ∷ []) s.number) (found s used none)).1 ∙ ap (λ t. cond t (Some e) None) here)
 
-    only : (j : ℕ) (d : Evidence) → slice_get (e ∷ []) j ≡ Some d → e ≡ d
+    only : (j : ℕ) (d : ServerAck) → slice_get (e ∷ []) j ≡ Some d → e ≡ d
     only zero d f = same_Some _ _ f
     only (suc j) d f = absurd (none_some f)
 
-    by : (d : Evidence)
+    by : (d : ServerAck)
         → ((j : ℕ) × (slice_get k.settled j ≡ Some d)) ⊎ ((j : ℕ) × (slice_get (e ∷ []) j ≡ Some d))
         → IsGone (live_settles b load.number) d.number
     by d (inl at) = settles-gone b load.number d.number (own.gone at.0 d at.1)
-    by d (inr at) = subst (λ n. IsGone (live_settles b load.number) n) (sym same ∙ ap (λ (x : Evidence). x.number) (only at.0 d at.1)) (settled-gone b load sound is)
+    by d (inr at) = subst (λ n. IsGone (live_settles b load.number) n) (sym same ∙ ap (λ (x : ServerAck). x.number) (only at.0 d at.1)) (settled-gone b load sound is)
 
 -- ---- requests leave
 
@@ -251,17 +251,17 @@ drops-coupled b k p own = record {
     left : List Entered
     left = filter (λ r. not (p r)) k.requests
 
-    now : List Evidence
+    now : List ServerAck
     now = evidence_for left k.settled
 
 -- ---- what a worker has is of what the requests have
 
 -- no evidence has the number of what a worker has
-carried-fresh : (b : LiveBuffer) (k : LiveBook) (load : Load) (n : ℕ) → IsSound b → IsCarried b load
+carried-fresh : (b : LiveBuffer) (k : LiveBook) (load : CarriedChunk) (n : ℕ) → IsSound b → IsCarried b load
     → n ≡ load.number → IsCoupled b k → evidence_of k.settled n ≡ None
 carried-fresh b k load n sound is same own = by (evidence_of k.settled n) refl
   where
-    by : (o : Option Evidence) → evidence_of k.settled n ≡ o → o ≡ None
+    by : (o : Option ServerAck) → evidence_of k.settled n ≡ o → o ≡ None
     by None e = refl
     by (Some d) e =
         let there = found_there k.settled n d e in
@@ -269,8 +269,8 @@ carried-fresh b k load n sound is same own = by (evidence_of k.settled n) refl
         let c = carried-found b load.number load is sound.in_order in
         absurd (none_some (sym (own.gone there.0 d there.1).none ∙ (λ i. find (is_at ((number ∙ same) i)) b.chunks) ∙ c.1))
 
-runs-are : (b : LiveBuffer) (k : LiveBook) (load : Load) (e : Evidence) (tag : List ℕ)
-    (spans : List Span) (own : List (List ℕ)) → IsSound b → IsCarried b load → IsEvidence e load
+runs-are : (b : LiveBuffer) (k : LiveBook) (load : CarriedChunk) (e : ServerAck) (tag : List ℕ)
+    (spans : List Span) (own : List (List ℕ)) → IsSound b → IsCarried b load → IsServerAck e load
     → IsCoupled b k → AreWaiting b.chunks k.settled tag spans own
     → HasItsRuns e.number e.entries spans own
     × (list_any (λ s. s.number == e.number) spans ≡ true → e.tag ≡ tag)
@@ -292,8 +292,8 @@ runs-are b k load e tag (s ∷ spans) own sound is ev c w =
     by true f has rest = ev.tag ∙ (here (eqb-true s.number e.number f)).0
     by false f has rest = rest has
 
-pub acked-is-of : (b : LiveBuffer) (k : LiveBook) (load : Load) (e : Evidence) (i : ℕ) (q : Entered)
-    → IsSound b → IsCarried b load → IsEvidence e load → IsCoupled b k
+pub acked-is-of : (b : LiveBuffer) (k : LiveBook) (load : CarriedChunk) (e : ServerAck) (i : ℕ) (q : Entered)
+    → IsSound b → IsCarried b load → IsServerAck e load → IsCoupled b k
     → slice_get k.requests i ≡ Some q → IsOf q e
 acked-is-of b k load e i q sound is ev own at =
     let both = runs-are b k load e q.tag q.spans q.entries sound is ev own (own.waiting i q at) in

@@ -7,8 +7,8 @@ use Rattle.std.proofs.lemmas.Bool.Decides.{nat_tests}
 use Rattle.fwd_modes.specs.Requests.{Request}
 use Rattle.fwd_chunks.specs.declared.chunk.Chunk.{Chunk}
 use Rattle.fwd_chunks.specs.declared.flush.FlushKind.{FlushKind}
-use Rattle.fwd_chunks.specs.History.{Load}
-use Rattle.fwd_chunks.specs.Live.{LiveBuffer, IsCarried, live_looks, live_enters, live_flushes, live_given, live_takes, live_load, live_carried, live_settles, live_frees}
+use Rattle.fwd_chunks.specs.History.{CarriedChunk}
+use Rattle.fwd_chunks.specs.Live.{LiveBuffer, IsCarried, live_looks, live_enters, live_flushes, live_given, live_takes, live_carried_chunk, live_carried, live_settles, live_frees}
 use Rattle.fwd_chunks.specs.Soundness.{IsSound}
 use Rattle.fwd_chunks.proofs.Taken.{carried-enters, carried-flushes, given-free, carried-takes, given-carried, carried-settles, carried-frees}
 use Rattle.fwd_model.specs.Layers.{Worker}
@@ -36,7 +36,7 @@ held-idle b n = subst (AreHere b) (sym (idle-none n)) (nothing-here b)
 -- ---- another buffer
 
 pub held_in : (b d : LiveBuffer) (ws : List (Worker LiveSession)) → AreHeld b ws
-    → ((n : ℕ) (c : Load) → live_carried b n ≡ Some c → live_carried d n ≡ Some c)
+    → ((n : ℕ) (c : CarriedChunk) → live_carried b n ≡ Some c → live_carried d n ≡ Some c)
     → AreHeld d ws
 held_in b d ws own stays = record {
   carried = all_same (IsCarried b) (IsCarried d) (chunks_of ws) (λ c e. stays c.number c e) own.carried;
@@ -76,7 +76,7 @@ not-yet b now chunk ws sound own given =
 pub held-takes : (b : LiveBuffer) (ws : List (Worker LiveSession)) (place worker now : ℕ)
     (x y : Worker LiveSession) → IsSound b → AreHeld b ws → slice_get ws place ≡ Some x
     → x.taken ≡ None
-    → y ≡ record { taken = option_map (live_load b) (live_given (live_looks b now)); session = x.session }
+    → y ≡ record { taken = option_map (live_carried_chunk b) (live_given (live_looks b now)); session = x.session }
     → AreHeld (live_takes b worker now) (set ws place y)
 held-takes b ws place worker now x y sound own here none takes =
     subst (λ k. AreHeld d (set ws place k)) (sym takes) (by (live_given (live_looks b now)) refl)
@@ -84,7 +84,7 @@ held-takes b ws place worker now x y sound own here none takes =
     d : LiveBuffer
     d = live_takes b worker now
 
-    with_taken : Option Load → Worker LiveSession
+    with_taken : Option CarriedChunk → Worker LiveSession
     with_taken o = record { taken = o; session = x.session }
 
     had : chunks_at x ≡ chunks_in x.session
@@ -100,7 +100,7 @@ held-takes b ws place worker now x y sound own here none takes =
     had-times n = ap (times n) had
 
     by : (o : Option Chunk) → live_given (live_looks b now) ≡ o
-        → AreHeld d (set ws place (with_taken (option_map (live_load b) o)))
+        → AreHeld d (set ws place (with_taken (option_map (live_carried_chunk b) o)))
     by None e = record {
       carried = all-set (IsCarried d) place ws (with_taken None) stays his;
       apart = λ n. omega (arith, own.apart n, times-set n place ws x (with_taken None) here, had-times n);
@@ -110,10 +110,10 @@ held-takes b ws place worker now x y sound own here none takes =
       apart = λ n. at n (chunk.number == n) refl;
     }
       where
-        c : Load
-        c = live_load b chunk
+        c : CarriedChunk
+        c = live_carried_chunk b chunk
 
-        cs : List Load
+        cs : List CarriedChunk
         cs = chunks_in x.session
 
         at : (n : ℕ) (t : Bool) → (chunk.number == n) ≡ t
@@ -130,19 +130,19 @@ held-takes b ws place worker now x y sound own here none takes =
 -- ---- a worker's chunk is settled
 
 -- a worker has its chunks but this one
-pub record Leaves (x y : Worker LiveSession) (a : Load) : Type 0 where
+pub record Leaves (x y : Worker LiveSession) (a : CarriedChunk) : Type 0 where
   pub each : (b : LiveBuffer) → AllByRecursion (IsCarried b) (chunks_at x)
       → IsCarried b a × AllByRecursion (IsCarried b) (chunks_at y)
   pub times : (n : ℕ) → times n (chunks_at x) ≡ times n (a ∷ chunks_at y)
 
 pub held-carries : (b : LiveBuffer) (ws : List (Worker LiveSession)) (place : ℕ)
-    (x y : Worker LiveSession) (a : Load) → AreHeld b ws → slice_get ws place ≡ Some x
+    (x y : Worker LiveSession) (a : CarriedChunk) → AreHeld b ws → slice_get ws place ≡ Some x
     → Leaves x y a → IsCarried b a
 held-carries b ws place x y a own here leaves =
     (leaves.each b (all-at (IsCarried b) place ws x here own.carried)).0
 
 pub held-settles : (b : LiveBuffer) (ws : List (Worker LiveSession)) (place : ℕ)
-    (x y : Worker LiveSession) (a : Load) → AreHeld b ws → slice_get ws place ≡ Some x
+    (x y : Worker LiveSession) (a : CarriedChunk) → AreHeld b ws → slice_get ws place ≡ Some x
     → Leaves x y a
     → AreHeld (live_settles b a.number) (set ws place y)
 held-settles b ws place x y a own here leaves = record {
@@ -159,7 +159,7 @@ held-settles b ws place x y a own here leaves = record {
 -- ---- a worker's chunks go back
 
 -- of chunks that are given back, none stands among these
-pub back-stays : (b : LiveBuffer) (back : List Return) (now : ℕ) (ds : List Load)
+pub back-stays : (b : LiveBuffer) (back : List Return) (now : ℕ) (ds : List CarriedChunk)
     → AllByRecursion (IsCarried b) ds → AllByRecursion (λ r. times r.number ds ≡ 0) back
     → AllByRecursion (IsCarried (live_gets_back b back now)) ds
 back-stays b [] now ds carried none = carried
@@ -170,7 +170,7 @@ back-stays b (r ∷ back) now ds carried none =
     none.1
 
 -- what is given back is of these chunks
-pub returned-all : (P : ℕ → Type 0) (taken : Option Load) (loaded : List Load)
+pub returned-all : (P : ℕ → Type 0) (taken : Option CarriedChunk) (loaded : List CarriedChunk)
     → AllByRecursion (λ c. P c.number) (option_to_list taken ++ loaded)
     → AllByRecursion (λ r. P r.number) (returned taken loaded)
 returned-all P None loaded all = all_map (λ r. P r.number) (return_of true) loaded all
@@ -186,7 +186,7 @@ held-here b ws place x own here = record {
 }
 
 pub held-ends : (b : LiveBuffer) (ws : List (Worker LiveSession)) (place now : ℕ)
-    (x : Worker LiveSession) (loaded : List Load) → AreHeld b ws → slice_get ws place ≡ Some x
+    (x : Worker LiveSession) (loaded : List CarriedChunk) → AreHeld b ws → slice_get ws place ≡ Some x
     → chunks_at x ≡ option_to_list x.taken ++ loaded
     → AreHeld (live_gets_back (live_looks b now) (returned x.taken loaded) now) (set ws place no_work)
 held-ends b ws place now x loaded own here has = record {
@@ -194,7 +194,7 @@ held-ends b ws place now x loaded own here has = record {
   apart = λ n. omega (arith, own.apart n, left n);
 }
   where
-    others : List Load
+    others : List CarriedChunk
     others = chunks_of (set ws place no_work)
 
     left : (n : ℕ) → times n others + times n (chunks_at x) ≡ times n (chunks_of ws)

@@ -3,14 +3,14 @@ use Rattle.std.proofs.Common.{◌≡◌, ◌<◌, ℕ, ◌+◌, Bool, true, fals
 use Rattle.std.proofs.lemmas.Option.{slice_get-get_or, same_Some}
 use Rattle.std.specs.Prelude.{◌||◌, is_some, map, option_map, option_to_list, slice_get}
 use Rattle.std.specs.List.{AllByRecursion}
-use Rattle.fwd_chunks.specs.History.{Load}
+use Rattle.fwd_chunks.specs.History.{CarriedChunk}
 use Rattle.fwd_chunks.specs.Live.{LiveBuffer, IsCarried}
 use Rattle.fwd_model.specs.declared.answer.Answer.TheVariants as answer
 use Rattle.fwd_model.specs.declared.fault.Refusal.TheVariants.{NoSuch, NotNow}
 use Rattle.fwd_model.specs.Outcome.{Outcome, Stays, Goes, found, refuse_if, chunk_answer, ◌>>=◌, ◌>>◌}
 use Rattle.fwd_model.specs.Layers.{Worker}
 use Rattle.fwd_model.specs.Outputs.{live_count_at, numbers_back, output_choice, output_looks}
-use Rattle.fwd_session.specs.Evidence.{Accepted, Evidence, evidence_of}
+use Rattle.fwd_session.specs.ServerAcks.{Accepted, ServerAck, evidence_of}
 use Rattle.fwd_session.specs.History.{first_in}
 use Rattle.fwd_session.specs.Live.{LiveSession, live_chunks, session_unloads}
 use Rattle.fwd_session.proofs.Lists.{all_append}
@@ -35,7 +35,7 @@ take_is l w now x here free =
     ∙ ap (λ b. refuse_if b NotNow >> Goes (chunk_answer (lane_gives l now)) (lane_takes l w x now)) free
 
 -- a worker that may take has no chunk that it did not load, and its session has room
-pub may_take : (taken : Option Load) (full : Bool) → (is_some taken || full) ≡ false
+pub may_take : (taken : Option CarriedChunk) (full : Bool) → (is_some taken || full) ≡ false
     → (taken ≡ None) × (full ≡ false)
 may_take None false e = (refl, refl)
 may_take None true e = absurd cc
@@ -58,7 +58,7 @@ settle_is l w x s a here session is =
     ∙ ap (λ y. found y NotNow >>= λ c. settled_by l w x s c) is
 
 -- the session of which a chunk is acknowledged, with the one that was accepted first
-pub record IsAckedBy (x : Worker LiveSession) (c : Load) : Type 0 where
+pub record IsAckedBy (x : Worker LiveSession) (c : CarriedChunk) : Type 0 where
   pub session : LiveSession
   pub accepted : Accepted
   pub rest : List Accepted
@@ -66,7 +66,7 @@ pub record IsAckedBy (x : Worker LiveSession) (c : Load) : Type 0 where
   pub acks : session.accepted ≡ accepted ∷ rest
   pub chunk : accepted.chunk ≡ c
 
-pub acked_by : (x : Worker LiveSession) (c : Load) → acked_in x.session ≡ Some c → IsAckedBy x c
+pub acked_by : (x : Worker LiveSession) (c : CarriedChunk) → acked_in x.session ≡ Some c → IsAckedBy x c
 acked_by x c e = by x.session refl e
   where
     at : (s : LiveSession) → x.session ≡ Some s → (acked : List Accepted) → s.accepted ≡ acked
@@ -86,19 +86,19 @@ acked_by x c e = by x.session refl e
     by (Some s) is e = at s is s.accepted refl e
 
 -- what is kept of it
-pub evidence_of_it : (x : Worker LiveSession) (c : Load) (k : Evidence) (by : IsAckedBy x c)
+pub evidence_of_it : (x : Worker LiveSession) (c : CarriedChunk) (k : ServerAck) (by : IsAckedBy x c)
     → evidence_in x.session ≡ Some k → evidence_of by.session.setup.server by.accepted ≡ k
 evidence_of_it x c k by e =
     same_Some _ _ (sym (ap evidence_in by.is ∙ ap (λ acked. option_map (evidence_of by.session.setup.server) (first_in acked)) by.acks) ∙ e)
 
 -- the worker once it is settled
-pub settled_worker : (x : Worker LiveSession) (c : Load) (by : IsAckedBy x c)
+pub settled_worker : (x : Worker LiveSession) (c : CarriedChunk) (by : IsAckedBy x c)
     → worker_settled x ≡ with_session x (session_unloads by.session)
 settled_worker x c by =
     ap (λ o. record { taken = x.taken; session = option_map session_unloads o }) by.is
 
 -- it has all its chunks but that one
-pub settled_leaves : (x : Worker LiveSession) (c : Load) → IsAckedBy x c
+pub settled_leaves : (x : Worker LiveSession) (c : CarriedChunk) → IsAckedBy x c
     → Leaves x (worker_settled x) c
 settled_leaves x c by = record {
   each = λ b all. parts b (subst (AllByRecursion (IsCarried b)) had all);
@@ -108,13 +108,13 @@ settled_leaves x c by = record {
     s : LiveSession
     s = by.session
 
-    taken : List Load
+    taken : List CarriedChunk
     taken = option_to_list x.taken
 
-    carried : List Load
+    carried : List CarriedChunk
     carried = live_chunks s.carried
 
-    rest : List Load
+    rest : List CarriedChunk
     rest = map (λ (a : Accepted). a.chunk) by.rest
 
     had : chunks_at x ≡ taken ++ (carried ++ (c ∷ rest))
@@ -163,7 +163,7 @@ pub all_given : (x : Worker LiveSession) → has_acked lives x.session ≡ false
     → chunks_at x ≡ option_to_list x.taken ++ unacknowledged_of lives x.session
 all_given x none = by x.session none
   where
-    at : (carried : List Load) (acked : List Accepted) → is_some (first_in acked) ≡ false
+    at : (carried : List CarriedChunk) (acked : List Accepted) → is_some (first_in acked) ≡ false
         → carried ++ map (λ (a : Accepted). a.chunk) acked ≡ carried
     at carried [] e = append-nil carried
     at carried (a ∷ others) e = absurd cc

@@ -9,7 +9,7 @@ use Rattle.fwd_modes.specs.declared.origin.Origin.{Origin}
 use Rattle.fwd_chunks.specs.declared.fault.AdmitError.{AdmitError}
 use Rattle.fwd_chunks.specs.declared.flush.FlushKind.{FlushKind}
 use Rattle.fwd_chunks.specs.Cells.{is_carried, has_number}
-use Rattle.fwd_chunks.specs.History.{BufferSetting, BufferHistory, Load, load_of, spans_of, looks, frees}
+use Rattle.fwd_chunks.specs.History.{BufferSetting, BufferHistory, CarriedChunk, carried_chunk_of, spans_of, looks, frees}
 use Rattle.fwd_chunks.specs.Live.{LiveBuffer, live_buffer, IsCarried, live_refusal, live_looks, live_flushes, live_takes, live_frees}
 use Rattle.fwd_chunks.proofs.Follows as buffer
 use Rattle.fwd_chunks.proofs.Sane as sane
@@ -17,7 +17,7 @@ use Rattle.fwd_chunks.proofs.News.{enters-acknowledged, spans-unacked}
 use Rattle.fwd_failover.specs.History.{ServersSetting, ServersHistory}
 use Rattle.fwd_failover.specs.Live.{LiveServers, live_servers}
 use Rattle.fwd_failover.proofs.Kept.{live-looked, live-lost, live-settled}
-use Rattle.fwd_session.specs.Evidence.{Evidence, IsEvidence}
+use Rattle.fwd_session.specs.ServerAcks.{ServerAck, IsServerAck}
 use Rattle.fwd_session.proofs.Lists.{find_passes}
 use Rattle.fwd_book.specs.History as books
 use Rattle.fwd_book.specs.History.{Entered, Fate, Admission, BookHistory, CanBeTold, entered_as, are_fresh, is_untold, is_among, is_origin, is_settled, leaves, request_at, untold}
@@ -231,23 +231,23 @@ none_refused (Some fault) is refused = absurd (never (sym is ∙ refused))
 -- ---- chunks that workers have
 
 -- a chunk that a worker has from the live buffer is one of the history's
-theirs : (h : BufferHistory) (c : Load) → sane.IsSane h → IsCarried (live_buffer h) c
-    → (is_carried c.number h.carried ≡ true) × (load_of h c.number ≡ c)
+theirs : (h : BufferHistory) (c : CarriedChunk) → sane.IsSane h → IsCarried (live_buffer h) c
+    → (is_carried c.number h.carried ≡ true) × (carried_chunk_of h c.number ≡ c)
 theirs h c own is = by (is_carried c.number h.carried) (sym (buffer.carried-live h c.number own) ∙ is)
   where
-    by : (b : Bool) → cond b (Some (load_of h c.number)) None ≡ Some c
-        → (b ≡ true) × (load_of h c.number ≡ c)
+    by : (b : Bool) → cond b (Some (carried_chunk_of h c.number)) None ≡ Some c
+        → (b ≡ true) × (carried_chunk_of h c.number ≡ c)
     by true e = (refl, same_Some _ _ e)
     by false e = absurd (none-some c e)
 
-theirs-now : (l : LiveOutput) (c : Load) (t : IsLiveOutput l) → IsCarried l.buffer c
+theirs-now : (l : LiveOutput) (c : CarriedChunk) (t : IsLiveOutput l) → IsCarried l.buffer c
     → (is_carried c.number t.history.buffer.carried ≡ true)
-    × (load_of t.history.buffer c.number ≡ c)
+    × (carried_chunk_of t.history.buffer c.number ≡ c)
 unfolding live_output
 theirs-now l c t is =
     theirs t.history.buffer c (standing-sane l t).buffer (subst (λ (x : LiveOutput). IsCarried x.buffer c) t.is is)
 
-settle-follows : (h : OutputHistory) (e : Evidence) → IsSaneOutput h
+settle-follows : (h : OutputHistory) (e : ServerAck) → IsSaneOutput h
     → is_carried e.number h.buffer.carried ≡ true
     → live_output (output_next h (Settle e)) ≡ output_settles (live_output h) e
 unfolding live_output
@@ -257,13 +257,13 @@ settle-follows h e own has = λ i. record {
   servers = live-settled h.setting h.servers e.server i;
 }
 
-pub settled : (l : LiveOutput) (e : Evidence) (c : Load) → IsLiveOutput l → IsCarried l.buffer c
-    → IsEvidence e c → IsLiveOutput (output_settles l e)
+pub settled : (l : LiveOutput) (e : ServerAck) (c : CarriedChunk) → IsLiveOutput l → IsCarried l.buffer c
+    → IsServerAck e c → IsLiveOutput (output_settles l e)
 settled l e c t is shows =
     let his = theirs-now l c t is in
     let has : is_carried e.number t.history.buffer.carried ≡ true = ap (λ k. is_carried k t.history.buffer.carried) shows.number ∙ his.0 in
-    let same : c ≡ load_of t.history.buffer e.number = sym his.1 ∙ ap (load_of t.history.buffer) (sym shows.number) in
-    moves (λ x. output_settles x e) (Settle e) l t (has, subst (IsEvidence e) same shows) (settle-follows t.history e (standing-sane l t) has)
+    let same : c ≡ carried_chunk_of t.history.buffer e.number = sym his.1 ∙ ap (carried_chunk_of t.history.buffer) (sym shows.number) in
+    moves (λ x. output_settles x e) (Settle e) l t (has, subst (IsServerAck e) same shows) (settle-follows t.history e (standing-sane l t) has)
 
 back-follows : (h : OutputHistory) (number : ℕ) → IsSaneOutput h
     → is_carried number h.buffer.carried ≡ true
@@ -276,7 +276,7 @@ back-follows h number own has = λ i. record {
   servers = live_servers h.setting h.servers;
 }
 
-pub put_back : (l : LiveOutput) (b : LiveBuffer) (c : Load) → IsLiveOutput l
+pub put_back : (l : LiveOutput) (b : LiveBuffer) (c : CarriedChunk) → IsLiveOutput l
     → (IsCarried l.buffer c → b ≡ live_frees l.buffer c.number None)
     → (¬ (IsCarried l.buffer c) → b ≡ l.buffer) → IsLiveOutput (with_buffer b l)
 put_back l b c t here elsewhere = by (carried-or l.buffer c)
@@ -379,12 +379,12 @@ forgotten_of l conn t =
     moves (λ x. with_book (live_forgets_of x.book conn) x) (ForgetAll conn) l t tt (forget_of-follows t.history conn)
 
 -- a receipt is given only where all entries of the request are acknowledged
-record Given (settled : List Evidence) (qs : List Entered) (o : Origin) : Type 0 where
+record Given (settled : List ServerAck) (qs : List Entered) (o : Origin) : Type 0 where
   request : Entered
   here : request_at qs o ≡ Some request
   all : is_settled settled request ≡ true
 
-given-settled : (es : List Evidence) (qs : List Entered) (os : List Origin) (o : Origin)
+given-settled : (es : List ServerAck) (qs : List Entered) (os : List Origin) (o : Origin)
     → is_among (map (λ (r : Receipt). r.origin) (flat_map (λ x. receipt_if es (request_at qs x)) os)) o ≡ true
     → Given es qs o
 given-settled es qs [] o among = absurd cc

@@ -4,10 +4,10 @@ use Rattle.std.specs.Prelude.{◌==◌, map, find, is_some, nat_lt, option_map, 
 use Rattle.std.specs.List.{AllByRecursion}
 use Rattle.std.proofs.lemmas.List.{map-append}
 use Rattle.std.proofs.lemmas.Option.{same_Some}
-use Rattle.fwd_chunks.specs.History.{Load}
+use Rattle.fwd_chunks.specs.History.{CarriedChunk}
 use Rattle.fwd_chunks.specs.Live.{IsCarried}
 use Rattle.fwd_session.specs.declared.limits.TheConstants.{WINDOW_LIMIT}
-use Rattle.fwd_session.specs.Evidence.{Accepted, Evidence, IsBacked, evidence_of, reply_in}
+use Rattle.fwd_session.specs.ServerAcks.{Accepted, ServerAck, IsBacked, evidence_of, reply_in}
 use Rattle.fwd_session.specs.Said.{Said, names, without_first, left_by, accepted_for, accepted_by}
 use Rattle.fwd_session.specs.History.{first_in}
 use Rattle.fwd_session.specs.Live.{LiveSession, LiveLoaded, live_acked, live_chunks, live_has_chunk, live_is_late, live_room, live_says, falls_with, sends_through, session_begins, session_hears, session_listens, session_loads, session_looks, session_sends, session_takes, session_unloads}
@@ -18,10 +18,10 @@ use Rattle.fwd_model.specs.Setups.{session_setup}
 use Rattle.fwd_core.specs.Lanes.{IsRoomy, IsSameWork, chunks_at, times}
 use Rattle.fwd_core.proofs.ChunkLemmas.{all_front, all_back, times-append}
 
-abbrev chunk_in : LiveLoaded → Load
+abbrev chunk_in : LiveLoaded → CarriedChunk
 chunk_in l = l.chunk
 
-abbrev acked_chunk : Accepted → Load
+abbrev acked_chunk : Accepted → CarriedChunk
 acked_chunk a = a.chunk
 
 -- ---- the same chunks in the same order
@@ -36,7 +36,7 @@ pub same_session : (x y : Worker LiveSession) → y ≡ x → IsSameWork x y
 same_session x y e = same_chunks x y (ap chunks_at e)
 
 -- a session whose chunks changed in no more than how far they are sent
-sent-same : (taken : Option Load) (s t : LiveSession) (f : LiveLoaded → LiveLoaded)
+sent-same : (taken : Option CarriedChunk) (s t : LiveSession) (f : LiveLoaded → LiveLoaded)
     → t.carried ≡ map f s.carried → t.accepted ≡ s.accepted → ((l : LiveLoaded) → (f l).chunk ≡ l.chunk)
     → IsSameWork (record { taken = taken; session = Some s }) (record { taken = taken; session = Some t })
 sent-same taken s t f carried accepted same =
@@ -47,7 +47,7 @@ sent-same taken s t f carried accepted same =
     mapped [] = refl
     mapped (l ∷ ls) = λ i. same l i ∷ mapped ls i
 
-sent-roomy : (taken : Option Load) (s t : LiveSession) (f : LiveLoaded → LiveLoaded)
+sent-roomy : (taken : Option CarriedChunk) (s t : LiveSession) (f : LiveLoaded → LiveLoaded)
     → t.setup ≡ s.setup → t.carried ≡ map f s.carried → t.accepted ≡ s.accepted
     → IsRoomy taken s → IsRoomy taken t
 sent-roomy taken s t f setup carried accepted own = record {
@@ -56,7 +56,7 @@ sent-roomy taken s t f setup carried accepted own = record {
 }
 
 -- as the methods meet it
-pub same_work : (x : Worker LiveSession) (taken : Option Load) (o : Option LiveSession)
+pub same_work : (x : Worker LiveSession) (taken : Option CarriedChunk) (o : Option LiveSession)
     (s t u : LiveSession) → record { taken = taken; session = o } ≡ x → o ≡ Some s → t ≡ u
     → IsSameWork (record { taken = taken; session = Some s }) (record { taken = taken; session = Some u })
     → IsSameWork x (record { taken = taken; session = Some t })
@@ -64,20 +64,20 @@ same_work x taken o s t u view is now same =
     subst (λ k. IsSameWork k (record { taken = taken; session = Some t })) (sym (ap (λ p. record { taken = taken; session = p }) is) ∙ view)
     (subst (λ k. IsSameWork (record { taken = taken; session = Some s }) (record { taken = taken; session = Some k })) (sym now) same)
 
-pub roomy-none : (taken o : Option Load) (s : LiveSession) → o ≡ None → IsRoomy taken s → IsRoomy o s
+pub roomy-none : (taken o : Option CarriedChunk) (s : LiveSession) → o ≡ None → IsRoomy taken s → IsRoomy o s
 roomy-none taken o s none own =
     subst (λ p. IsRoomy p s) (sym none) (record { window = own.window; room = λ is. absurd cc })
 
 -- ---- a session begins
 
-pub begins-roomy : (c : OutputConfig) (taken : Option Load) (server : ℕ) (salt : List ℕ) (now : ℕ)
+pub begins-roomy : (c : OutputConfig) (taken : Option CarriedChunk) (server : ℕ) (salt : List ℕ) (now : ℕ)
     → IsRoomy taken (session_begins (session_setup c server salt now))
 begins-roomy c taken server salt now = record {
   window = c.acks.few;
   room = λ is. omega (arith, c.acks.some);
 }
 
-pub begins-same : (c : OutputConfig) (taken : Option Load) (server : ℕ) (salt : List ℕ) (now : ℕ)
+pub begins-same : (c : OutputConfig) (taken : Option CarriedChunk) (server : ℕ) (salt : List ℕ) (now : ℕ)
     → IsSameWork (record { taken = taken; session = None })
     (record { taken = taken; session = Some (session_begins (session_setup c server salt now)) })
 begins-same c taken server salt now =
@@ -85,7 +85,7 @@ begins-same c taken server salt now =
 
 -- ---- a chunk is loaded
 
-pub loads-same : (c : Load) (s : LiveSession) (now : ℕ)
+pub loads-same : (c : CarriedChunk) (s : LiveSession) (now : ℕ)
     → IsSameWork (record { taken = Some c; session = Some s })
     (record { taken = None; session = Some (session_loads s c now) })
 loads-same c s now = record {
@@ -96,22 +96,22 @@ loads-same c s now = record {
       omega (arith, after, before, times-append n carried (c ∷ []), times-append n carried accepted);
 }
   where
-    carried : List Load
+    carried : List CarriedChunk
     carried = live_chunks s.carried
 
-    accepted : List Load
+    accepted : List CarriedChunk
     accepted = map acked_chunk s.accepted
 
     has : chunks_at (record { taken = None; session = Some (session_loads s c now) })
         ≡ (carried ++ c ∷ []) ++ accepted
     has = ap (λ ds. ds ++ accepted) (map-append chunk_in s.carried _)
 
-pub loads-roomy : (taken : Option Load) (c : Load) (s : LiveSession) (now : ℕ) → IsRoomy taken s
+pub loads-roomy : (taken : Option CarriedChunk) (c : CarriedChunk) (s : LiveSession) (now : ℕ) → IsRoomy taken s
     → IsRoomy None (session_loads s c now)
 loads-roomy taken c s now own = record { window = own.window; room = λ is. absurd cc }
 
-pub loads_work : (x : Worker LiveSession) (taken o : Option Load) (p : Option LiveSession)
-    (s t : LiveSession) (c : Load) (now : ℕ)
+pub loads_work : (x : Worker LiveSession) (taken o : Option CarriedChunk) (p : Option LiveSession)
+    (s t : LiveSession) (c : CarriedChunk) (now : ℕ)
     → record { taken = taken; session = p } ≡ x → taken ≡ Some c → p ≡ Some s → o ≡ None
     → t ≡ session_loads s c now
     → IsSameWork x (record { taken = o; session = Some t })
@@ -121,29 +121,29 @@ loads_work x taken o p s t c now view has is none next =
 
 -- ---- its link takes bytes
 
-pub sends-same : (taken : Option Load) (s : LiveSession) (count : ℕ)
+pub sends-same : (taken : Option CarriedChunk) (s : LiveSession) (count : ℕ)
     → IsSameWork (record { taken = taken; session = Some s })
     (record { taken = taken; session = Some (session_sends s count) })
 sends-same taken s count = sent-same taken s (session_sends s count) (sends_through count) refl refl (λ l. refl)
 
-pub sends-roomy : (taken : Option Load) (s : LiveSession) (count : ℕ) → IsRoomy taken s
+pub sends-roomy : (taken : Option CarriedChunk) (s : LiveSession) (count : ℕ) → IsRoomy taken s
     → IsRoomy taken (session_sends s count)
 sends-roomy taken s count own = sent-roomy taken s (session_sends s count) (sends_through count) refl refl refl own
 
 -- ---- it is asked whether it is late
 
-pub looks-same : (taken : Option Load) (s : LiveSession) (now : ℕ)
+pub looks-same : (taken : Option CarriedChunk) (s : LiveSession) (now : ℕ)
     → IsSameWork (record { taken = taken; session = Some s })
     (record { taken = taken; session = Some (session_looks s now) })
 unfolding session_looks
 looks-same taken s now = sent-same taken s (session_looks s now) (falls_with (live_is_late s now)) refl refl (λ l. refl)
 
-pub looks-roomy : (taken : Option Load) (s : LiveSession) (now : ℕ) → IsRoomy taken s
+pub looks-roomy : (taken : Option CarriedChunk) (s : LiveSession) (now : ℕ) → IsRoomy taken s
     → IsRoomy taken (session_looks s now)
 unfolding session_looks
 looks-roomy taken s now own = sent-roomy taken s (session_looks s now) (falls_with (live_is_late s now)) refl refl refl own
 
-pub late-same : (taken : Option Load) (s t : LiveSession) (now : ℕ)
+pub late-same : (taken : Option CarriedChunk) (s t : LiveSession) (now : ℕ)
     → (s.down ≡ true → t ≡ s) → (s.down ≡ false → t ≡ session_looks s now)
     → IsSameWork (record { taken = taken; session = Some s }) (record { taken = taken; session = Some t })
 late-same taken s t now stays goes = by s.down refl
@@ -158,7 +158,7 @@ late-same taken s t now stays goes = by s.down refl
 
 -- ---- what is heard
 
-first_times : (n : ℕ) (v : List ℕ) (cs : List Load)
+first_times : (n : ℕ) (v : List ℕ) (cs : List CarriedChunk)
     → times n (map acked_chunk (accepted_for v (find (λ c. names v c.name) cs)))
     + times n (without_first (λ c. names v c.name) cs)
     ≡ times n cs
@@ -173,46 +173,46 @@ first_times n v (c ∷ cs) = by (names v c.name) (c.number == n) (first_times n 
     by true t rest = omega (arith, times-append n (c ∷ []) cs)
     by false t rest = omega (arith, rest, times-append n (c ∷ []) cs, times-append n (c ∷ []) (without_first (λ c. names v c.name) cs))
 
-left_times : (n : ℕ) (vs : List (List ℕ)) (cs : List Load)
+left_times : (n : ℕ) (vs : List (List ℕ)) (cs : List CarriedChunk)
     → times n (left_by (λ c. c.name) vs cs) + times n (map acked_chunk (accepted_by vs cs))
     ≡ times n cs
 left_times n [] cs = omega arith
 left_times n (v ∷ vs) cs =
-    let left = without_first (λ (c : Load). names v c.name) cs in
+    let left = without_first (λ (c : CarriedChunk). names v c.name) cs in
     let one = map acked_chunk (accepted_for v (find (λ c. names v c.name) cs)) in
     let later = map acked_chunk (accepted_by vs left) in
     let parts : times n (map acked_chunk (accepted_by (v ∷ vs) cs)) ≡ times n one + times n later =
     ap (times n) (map-append acked_chunk (accepted_for v (find (λ c. names v c.name) cs)) (accepted_by vs left)) ∙ times-append n one later in
     omega (arith, parts, left_times n vs left, first_times n v cs)
 
-all_for : (P : Load → Type 0) (v : List ℕ) (o : Option Load) → ((c : Load) → o ≡ Some c → P c)
+all_for : (P : CarriedChunk → Type 0) (v : List ℕ) (o : Option CarriedChunk) → ((c : CarriedChunk) → o ≡ Some c → P c)
     → AllByRecursion P (map acked_chunk (accepted_for v o))
 all_for P v None all = tt
 all_for P v (Some c) all = (all c refl, tt)
 
-all_accepted : (P : Load → Type 0) (vs : List (List ℕ)) (cs : List Load) → AllByRecursion P cs
+all_accepted : (P : CarriedChunk → Type 0) (vs : List (List ℕ)) (cs : List CarriedChunk) → AllByRecursion P cs
     → AllByRecursion P (map acked_chunk (accepted_by vs cs))
 all_accepted P [] cs all = tt
 all_accepted P (v ∷ vs) cs all =
-    let left = without_first (λ (c : Load). names v c.name) cs in
+    let left = without_first (λ (c : CarriedChunk). names v c.name) cs in
     subst (AllByRecursion P) (sym (map-append acked_chunk (accepted_for v (find (λ c. names v c.name) cs)) (accepted_by vs left)))
     (all_append P _ _ (all_for P v (find (λ c. names v c.name) cs) (λ c e. all_find P (λ c. names v c.name) cs c all e)) (all_accepted P vs left (all_without P (λ c. names v c.name) cs all)))
 
-module _ (taken : Option Load) (s : LiveSession) (said : Said) (rest : List ℕ) where
+module _ (taken : Option CarriedChunk) (s : LiveSession) (said : Said) (rest : List ℕ) where
   abbrev vs : List (List ℕ)
   vs = said.replies
 
-  abbrev cs : List Load
+  abbrev cs : List CarriedChunk
   cs = live_chunks s.carried
 
-  abbrev before : List Load
+  abbrev before : List CarriedChunk
   before = map acked_chunk s.accepted
 
-  abbrev newly : List Load
+  abbrev newly : List CarriedChunk
   newly = map acked_chunk (accepted_by vs cs)
 
-  abbrev left : List Load
-  left = left_by (λ (c : Load). c.name) vs cs
+  abbrev left : List CarriedChunk
+  left = left_by (λ (c : CarriedChunk). c.name) vs cs
 
   abbrev was : Worker LiveSession
   was = record { taken = taken; session = Some s }
@@ -224,7 +224,7 @@ module _ (taken : Option Load) (s : LiveSession) (said : Said) (rest : List ℕ)
   unfolding session_takes
   shown =
       let stay = map_map chunk_in (falls_with (is_some said.fault)) (left_by (λ (l : LiveLoaded). l.chunk.name) vs s.carried) in
-      let chunks = sym (left_map (λ (c : Load). c.name) chunk_in vs s.carried) in
+      let chunks = sym (left_map (λ (c : CarriedChunk). c.name) chunk_in vs s.carried) in
       λ i. option_to_list taken ++ ((stay ∙ chunks) i ++ map-append acked_chunk s.accepted (accepted_by vs cs) i)
 
   pub takes-same : IsSameWork was is
@@ -239,7 +239,7 @@ module _ (taken : Option Load) (s : LiveSession) (said : Said) (rest : List ℕ)
         omega (arith, after, times-append n left (before ++ newly), times-append n before newly, left_times n vs cs, times-append n (option_to_list taken) (cs ++ before), times-append n cs before);
   }
 
-pub hears-same : (taken : Option Load) (s : LiveSession) (bytes : List ℕ)
+pub hears-same : (taken : Option CarriedChunk) (s : LiveSession) (bytes : List ℕ)
     → IsSameWork (record { taken = taken; session = Some s })
     (record { taken = taken; session = Some (session_hears s bytes) })
 hears-same taken s bytes = by s.down
@@ -257,7 +257,7 @@ hears-setup s bytes = by s.down
     by true = refl
     by false = refl
 
-pub hears-roomy : (taken : Option Load) (s t : LiveSession) (bytes : List ℕ)
+pub hears-roomy : (taken : Option CarriedChunk) (s t : LiveSession) (bytes : List ℕ)
     → t ≡ session_hears s bytes → live_room t ≡ live_room s → IsRoomy taken s → IsRoomy taken t
 hears-roomy taken s t bytes hears room own = record {
   window = subst (λ n. n ≤ WINDOW_LIMIT) (sym (ap (λ (k : LiveSession). k.setup.window) hears ∙ ap (λ k. k.window) (hears-setup s bytes))) own.window;
@@ -267,14 +267,14 @@ hears-roomy taken s t bytes hears room own = record {
 -- ---- a chunk is taken out, and the end
 
 -- what is kept is of the chunk that was accepted first
-pub kept-first : {A : Type 0} (value : A → Evidence) (s : LiveSession) (o : Option (A × Load))
+pub kept-first : {A : Type 0} (value : A → ServerAck) (s : LiveSession) (o : Option (A × CarriedChunk))
     → option_map (λ p. p.1) o ≡ live_acked s
     → reply_in (option_map (λ p. value p.0) o) ≡ option_map (λ a. a.reply) (first_in s.accepted)
     → IfSome o (λ p. IsBacked s.setup.server (value p.0) p.1)
     → option_map (λ p. value p.0) o ≡ option_map (evidence_of s.setup.server) (first_in s.accepted)
 kept-first {A} value s o chunk reply backed = by o (first_in s.accepted) chunk reply backed
   where
-    by : (o : Option (A × Load)) (first : Option Accepted)
+    by : (o : Option (A × CarriedChunk)) (first : Option Accepted)
         → option_map (λ p. p.1) o ≡ option_map (λ a. a.chunk) first
         → reply_in (option_map (λ p. value p.0) o) ≡ option_map (λ a. a.reply) first
         → IfSome o (λ p. IsBacked s.setup.server (value p.0) p.1)
@@ -285,14 +285,14 @@ kept-first {A} value s o chunk reply backed = by o (first_in s.accepted) chunk r
     by (Some p) (Some a) e f b =
         let same : p.1 ≡ a.chunk = same_Some _ _ e in
         λ i. Some (record {
-          number = (b.0.number ∙ ap (λ (c : Load). c.number) same) i;
-          tag = (b.0.tag ∙ ap (λ (c : Load). c.tag) same) i;
-          entries = (b.0.entries ∙ ap (λ (c : Load). c.entries) same) i;
+          number = (b.0.number ∙ ap (λ (c : CarriedChunk). c.number) same) i;
+          tag = (b.0.tag ∙ ap (λ (c : CarriedChunk). c.tag) same) i;
+          entries = (b.0.entries ∙ ap (λ (c : CarriedChunk). c.entries) same) i;
           server = b.1 i;
           reply = same_Some _ _ f i;
         })
 
-pub unloads-roomy : (taken : Option Load) (s : LiveSession) → IsRoomy taken s
+pub unloads-roomy : (taken : Option CarriedChunk) (s : LiveSession) → IsRoomy taken s
     → IsRoomy taken (session_unloads s)
 unloads-roomy taken s own = record {
   window = own.window;
@@ -311,7 +311,7 @@ none-acked s e = by s.accepted e
     by [] e = refl
     by (a ∷ others) e = absurd cc
 
-pub fewer-acked : (s : LiveSession) (c : Load) → Some c ≡ live_acked s
+pub fewer-acked : (s : LiveSession) (c : CarriedChunk) → Some c ≡ live_acked s
     → length (drop 1 s.accepted) < length s.accepted
 fewer-acked s c e = by s.accepted e
   where
@@ -327,7 +327,7 @@ has-unacknowledged s none =
     ap (λ n. nat_lt 0 n) (omega (arith, ap length none, length_map chunk_in s.carried))
 
 -- a worker that ends gives back no more than fit into its window
-pub ends-few : (taken : Option Load) (s : LiveSession) (loaded : List Load) → IsRoomy taken s
+pub ends-few : (taken : Option CarriedChunk) (s : LiveSession) (loaded : List CarriedChunk) → IsRoomy taken s
     → loaded ≡ live_chunks s.carried → length loaded ≤ WINDOW_LIMIT
     → length (option_to_list taken ++ loaded) ≤ WINDOW_LIMIT
 ends-few None s loaded own is few = few

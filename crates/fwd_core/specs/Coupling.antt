@@ -4,13 +4,13 @@ use Rattle.fwd_chunks.specs.declared.chunk.Chunk.{Chunk}
 use Rattle.fwd_chunks.specs.declared.span.Span.{Span}
 use Rattle.fwd_chunks.specs.Live.{LiveBuffer}
 use Rattle.fwd_chunks.specs.Spans.{IsHeld, IsGone}
-use Rattle.fwd_session.specs.Evidence.{Evidence}
+use Rattle.fwd_session.specs.ServerAcks.{ServerAck}
 use Rattle.fwd_book.specs.History.{Entered, evidence_of}
 use Rattle.fwd_book.specs.Live.{LiveBook}
 use Rattle.fwd_model.specs.Outputs.{book_setting}
 
 -- of a request's runs those that are not acknowledged stand in the chunks, under its tag
-abbrev pub AreWaiting : List Chunk → List Evidence → (tag : List ℕ) → List Span
+abbrev pub AreWaiting : List Chunk → List ServerAck → (tag : List ℕ) → List Span
     → (own : List (List ℕ)) → Type 0
 AreWaiting chunks settled tag [] own = Unit {0}
 AreWaiting chunks settled tag (s ∷ spans) own =
@@ -23,4 +23,4 @@ pub record IsCoupled (b : LiveBuffer) (k : LiveBook) : Type 0 where
   pub setting : k.setting ≡ book_setting b.setting
   pub waiting : (i : ℕ) (q : Entered) → slice_get k.requests i ≡ Some q
       → AreWaiting b.chunks k.settled q.tag q.spans q.entries
-  pub gone : (j : ℕ) (e : Evidence) → slice_get k.settled j ≡ Some e → IsGone b e.number
+  pub gone : (j : ℕ) (e : ServerAck) → slice_get k.settled j ≡ Some e → IsGone b e.number

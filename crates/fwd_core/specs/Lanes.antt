@@ -29,13 +29,13 @@ use Rattle.std.specs.Prelude.{
 use Rattle.std.specs.List.{AllByRecursion}
 use Rattle.fwd_modes.specs.declared.origin.Origin.{Origin}
 use Rattle.fwd_book.specs.History.{Entered, request_at}
-use Rattle.fwd_chunks.specs.History.{Load}
+use Rattle.fwd_chunks.specs.History.{CarriedChunk}
 use Rattle.fwd_chunks.specs.Live.{LiveBuffer, IsCarried, live_frees}
 use Rattle.fwd_model.specs.declared.config.OutputConfig.{OutputConfig}
 use Rattle.fwd_model.specs.Layers.{Worker}
 use Rattle.fwd_model.specs.Outputs.{no_requests, moment_if}
 use Rattle.fwd_session.specs.declared.limits.TheConstants.{WINDOW_LIMIT}
-use Rattle.fwd_session.specs.Evidence.{Evidence, evidence_of}
+use Rattle.fwd_session.specs.ServerAcks.{ServerAck, evidence_of}
 use Rattle.fwd_session.specs.History.{first_in}
 use Rattle.fwd_session.specs.Live.{LiveSession, live_acked, live_chunks, live_room, session_unloads}
 use Rattle.fwd_model.specs.Setups.{setting_of, servers_of}
@@ -62,26 +62,26 @@ new_live_lanes run o (c ∷ cs) = new_live_lane run o c ∷ new_live_lanes run (
 
 -- a session has a window as settings allow it, and room for the chunk that its worker took, if it
 -- took one
-pub record IsRoomy (taken : Option Load) (s : LiveSession) : Type 0 where
+pub record IsRoomy (taken : Option CarriedChunk) (s : LiveSession) : Type 0 where
   pub window : s.setup.window ≤ WINDOW_LIMIT
   pub room : is_some taken ≡ true → 0 < live_room s
 
 -- the chunks that a session has: those that are not acknowledged, and those that are and were not
 -- taken out
-abbrev pub chunks_in : Option LiveSession → List Load
+abbrev pub chunks_in : Option LiveSession → List CarriedChunk
 chunks_in None = []
 chunks_in (Some s) = live_chunks s.carried ++ map (λ a. a.chunk) s.accepted
 
 -- the chunks that a worker has: the one that it took and did not load, and those of its session
-abbrev pub chunks_at : Worker LiveSession → List Load
+abbrev pub chunks_at : Worker LiveSession → List CarriedChunk
 chunks_at x = option_to_list x.taken ++ chunks_in x.session
 
 -- the chunks that workers have
-abbrev pub chunks_of : List (Worker LiveSession) → List Load
+abbrev pub chunks_of : List (Worker LiveSession) → List CarriedChunk
 chunks_of workers = flat_map chunks_at workers
 
 -- how many of the chunks have the number
-abbrev pub times : ℕ → List Load → ℕ
+abbrev pub times : ℕ → List CarriedChunk → ℕ
 times number [] = 0
 times number (c ∷ chunks) =
     if c.number == number then suc (times number chunks) else times number chunks
@@ -95,12 +95,12 @@ pub record IsSameWork (x y : Worker LiveSession) : Type 0 where
 -- ---- a chunk is settled
 
 -- a worker's chunk whose acknowledgement was accepted first
-abbrev pub acked_in : Option LiveSession → Option Load
+abbrev pub acked_in : Option LiveSession → Option CarriedChunk
 acked_in None = None
 acked_in (Some s) = live_acked s
 
 -- what is kept of it: the chunk, the server and its reply
-abbrev pub evidence_in : Option LiveSession → Option Evidence
+abbrev pub evidence_in : Option LiveSession → Option ServerAck
 evidence_in None = None
 evidence_in (Some s) = option_map (evidence_of s.setup.server) (first_in s.accepted)
 
@@ -115,7 +115,7 @@ chunk_at qs origin = option_and_then (λ (q : Entered). q.chunk) (request_at qs 
 -- ---- the chunks of a buffer
 
 -- workers have each of the chunks from the buffer, and no number stands among them twice
-pub record AreHere (b : LiveBuffer) (chunks : List Load) : Type 0 where
+pub record AreHere (b : LiveBuffer) (chunks : List CarriedChunk) : Type 0 where
   pub carried : AllByRecursion (IsCarried b) chunks
   pub apart : (number : ℕ) → times number chunks ≤ 1
 
@@ -125,15 +125,15 @@ AreHeld b workers = AreHere b (chunks_of workers)
 
 -- a chunk that is handed back, and whether that counts as a loss
 pub record Handed : Type 0 where
-  pub chunk : Load
+  pub chunk : CarriedChunk
   pub lost : Bool
 
 -- it was not loaded
-abbrev pub kept_back : Load → Handed
+abbrev pub kept_back : CarriedChunk → Handed
 kept_back c = record { chunk = c; lost = false }
 
 -- it was loaded
-abbrev pub lost_back : Load → Handed
+abbrev pub lost_back : CarriedChunk → Handed
 lost_back c = record { chunk = c; lost = true }
 
 -- what a buffer comes to once chunks are handed back to it at a moment, one after the other: one

@@ -15,9 +15,9 @@ use Rattle.fwd_modes.specs.declared.origin.Origin.{Origin}
 use Rattle.fwd_chunks.specs.declared.flush.FlushKind.{FlushKind}
 use Rattle.fwd_chunks.specs.Cells.{is_carried}
 use Rattle.fwd_chunks.specs.History as buffer
-use Rattle.fwd_chunks.specs.History.{BufferSetting, BufferHistory, load_of}
+use Rattle.fwd_chunks.specs.History.{BufferSetting, BufferHistory, carried_chunk_of}
 use Rattle.fwd_failover.specs.History.{ServersSetting}
-use Rattle.fwd_session.specs.Evidence.{Evidence, IsEvidence}
+use Rattle.fwd_session.specs.ServerAcks.{ServerAck, IsServerAck}
 use Rattle.fwd_book.specs.History as book
 use Rattle.fwd_book.specs.History.{CanBeTold, request_at, untold}
 use Rattle.fwd_model.specs.Outputs.{
@@ -42,7 +42,7 @@ pub data OutputEvent : Type 0 where
   Flush : (now : ℕ) (kind : FlushKind) → OutputEvent
   Look : (now : ℕ) → OutputEvent
   Take : (worker now : ℕ) → OutputEvent
-  Settle : (e : Evidence) → OutputEvent
+  Settle : (e : ServerAck) → OutputEvent
   End : (back : List Return) (server : Option ℕ) (now : ℕ) → OutputEvent
   PutBack : (number : ℕ) → OutputEvent
   Tell : (origins : List Origin) → OutputEvent
@@ -63,7 +63,8 @@ abbrev pub MayCome : OutputHistory → OutputEvent → Type 0
 MayCome o (Enter origin r now) =
     (request_at (untold o.book) origin ≡ None) × (buffer.refusal o.buffer origin r now ≡ None)
 MayCome o (Settle e) =
-    (is_carried e.number o.buffer.carried ≡ true) × IsEvidence e (load_of o.buffer e.number)
+    (is_carried e.number o.buffer.carried ≡ true)
+    × IsServerAck e (carried_chunk_of o.buffer e.number)
 MayCome o (End back server now) = AreTheirs (buffer.looks o.buffer now) back now
 MayCome o (PutBack number) = is_carried number o.buffer.carried ≡ true
 MayCome o (Tell origins) = CanBeTold o.book origins

@@ -41,7 +41,7 @@ ghost use Rattle.fwd_chunks.specs.Live.{
   live_closing,
   live_flushes,
   live_given,
-  live_load,
+  live_carried_chunk,
   live_looks,
   live_losses,
   live_spans,
@@ -52,7 +52,7 @@ ghost use Rattle.fwd_chunks.specs.Live.{
 ghost use Rattle.fwd_chunks.specs.Soundness.{IsSound};
 ghost use Rattle.fwd_failover.specs.Doubts.{live_is_doubted, live_trusted};
 ghost use Rattle.fwd_chunks.specs.TagCounts.{live_report, IsSnapshot};
-ghost use Rattle.fwd_session.specs.Evidence.{IsEvidence};
+ghost use Rattle.fwd_session.specs.ServerAcks.{IsServerAck};
 ghost use Rattle.fwd_book.specs.History.{Entered, entered_as, is_of, request_at};
 ghost use Rattle.fwd_book.specs.Receipts.{
   Receipt as AbstractReceipt,
@@ -307,7 +307,7 @@ impl OutputState {
         now: u64,
     ) -> Result<Option<Carried>, AllocError>
         ensures given { IfOk result (λ carried. carried ≡ option_map
-            (live_load self.old.buffer) (live_given (live_looks self.old.buffer now))) }
+            (live_carried_chunk self.old.buffer) (live_given (live_looks self.old.buffer now))) }
         ensures ok { OnOk result (self.new ≡ record self.old {
           buffer = live_takes self.old.buffer worker now;
         }) }
@@ -356,7 +356,7 @@ impl OutputState {
     /// the requests that have entries in it, and the server's losses count no more. Answers how
     /// many entries those are. A chunk that no worker has from this output is only spent.
     pub fn settle(&mut self, acked: Arc<Acked>, carried: Carried) -> usize
-        requires { IsEvidence (arc_value acked) carried }
+        requires { IsServerAck (arc_value acked) carried }
         ensures here { IsCarried self.old.buffer carried
             → self.new ≡ output_settles self.old (arc_value acked) }
         ensures count { IsCarried self.old.buffer carried

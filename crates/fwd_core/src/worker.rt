@@ -24,7 +24,7 @@ ghost use Rattle.std.specs.Prelude.{
 };
 ghost use Rattle.std.specs.Arc.{arc_value};
 ghost use Rattle.fwd_session.specs.declared.limits.TheConstants.{WINDOW_LIMIT};
-ghost use Rattle.fwd_session.specs.Evidence.{IsEvidence};
+ghost use Rattle.fwd_session.specs.ServerAcks.{IsServerAck};
 ghost use Rattle.fwd_session.specs.Live.{LiveSession};
 ghost use Rattle.fwd_model.specs.Outcome.{answer_of, state_of, of_heard};
 ghost use Rattle.fwd_model.specs.Step.{
@@ -302,7 +302,7 @@ impl Worker {
     /// kept of it.
     pub fn acked(&mut self) -> Option<(Arc<Acked>, Carried)>
         ensures chunk { option_map (λ pair. pair.1) result ≡ acked_in self.old.session }
-        ensures evidence { IfSome result (λ pair. IsEvidence (arc_value pair.0) pair.1) }
+        ensures evidence { IfSome result (λ pair. IsServerAck (arc_value pair.0) pair.1) }
         ensures kept { option_map (λ pair. arc_value pair.0) result
             ≡ evidence_in self.old.session }
         ensures settled { IfSome result (λ pair. self.new ≡ worker_settled self.old) }

@@ -26,7 +26,7 @@ use Rattle.fwd_model.proofs.Settling.{loads_of, carries-push_same, carries-push_
 use Rattle.fwd_model.proofs.Follows.Admits.{worker_stays}
 use Rattle.fwd_model.proofs.Follows.Ends.{Backs, gives-by, gives_all, others_have as ends-others}
 use Rattle.fwd_chunks.specs.Cells.{Carry}
-use Rattle.fwd_chunks.specs.History.{Load, load_of, given, looks, carry_more}
+use Rattle.fwd_chunks.specs.History.{CarriedChunk, carried_chunk_of, given, looks, carry_more}
 use Rattle.fwd_model.specs.Layers.{Worker}
 use Rattle.fwd_session.specs.History.{SessionHistory}
 use Rattle.std.proofs.lemmas.Bool.Decides.{nat_tests}
@@ -57,7 +57,7 @@ or-true : (b : Bool) → (b || true) ≡ true
 or-true true = refl
 or-true false = refl
 
-has-front : (a : ℕ) (cs ds : List Load) → has_chunk a cs ≡ true → has_chunk a (cs ++ ds) ≡ true
+has-front : (a : ℕ) (cs ds : List CarriedChunk) → has_chunk a cs ≡ true → has_chunk a (cs ++ ds) ≡ true
 has-front a [] ds h = absurd cc
 has-front a (c ∷ cs) ds h = by (eqb c.number a) refl (has-front a cs ds) h
   where
@@ -98,7 +98,7 @@ module _ (w : ℕ) (l : Lane) (own : IsSaneLane l) where
   takes-keep v now x acks a b had has =
       elim (same_or v w) [ inl e ↦ mine e (given (looks l.output.buffer now)) | inr e ↦ others e (given (looks l.output.buffer now)) ]
     where
-      held : Option ℕ → List Load
+      held : Option ℕ → List CarriedChunk
       held found =
           loads_of l.output.buffer (carries_of w (carry_more v found l.output.buffer.carried))
 
@@ -107,8 +107,8 @@ module _ (w : ℕ) (l : Lane) (own : IsSaneLane l) where
       mine e (Some k) =
           ap (λ u. has_chunk a (loads_of l.output.buffer (carries_of w (carry_more u (Some k) l.output.buffer.carried)))) e
           ∙ ap (λ cs. has_chunk a (loads_of l.output.buffer cs)) (carries-push_same w k l.output.buffer.carried)
-          ∙ ap (has_chunk a) (map-append (λ (c : Carry). load_of l.output.buffer c.number) (carries_of w l.output.buffer.carried) (record { worker = w; number = k } ∷ []))
-          ∙ has-front a (carried_by l.output.buffer w) (load_of l.output.buffer k ∷ []) had
+          ∙ ap (has_chunk a) (map-append (λ (c : Carry). carried_chunk_of l.output.buffer c.number) (carries_of w l.output.buffer.carried) (record { worker = w; number = k } ∷ []))
+          ∙ has-front a (carried_by l.output.buffer w) (carried_chunk_of l.output.buffer k ∷ []) had
 
       others : v ≢ w → (found : Option ℕ) → has_chunk a (held found) ≡ true
       others e None = had

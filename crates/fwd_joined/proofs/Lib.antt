@@ -2,7 +2,7 @@
 -- name nothing in common, and Among of a list that carries own events, with others among them. Fates
 -- and Receiving are of what became of requests, and of receipts, and Delivering is the law on them.
 -- Parting is of lists that have the same events at each part, Each of what each event does to an
--- output, and Alone of what goes back.
+-- output, and Alone of what goes back. Meetings is of two sides of a handshake.
 pub mod Own
 pub mod Nameless
 pub mod Carried
@@ -14,3 +14,4 @@ pub mod Delivering
 pub mod Parting
 pub mod Each
 pub mod Alone
+pub mod Meetings

@@ -9,8 +9,8 @@ use Rattle.fwd_match.specs.Patterns.{route}
 use Rattle.fwd_source.specs.History.{SourceHistory, waiting}
 use Rattle.fwd_chunks.specs.declared.fault.AdmitError.{AdmitError}
 use Rattle.fwd_chunks.specs.History as buffer
-use Rattle.fwd_chunks.specs.History.{BufferHistory, Load}
-use Rattle.fwd_session.specs.Evidence.{Evidence, Accepted, evidence_of}
+use Rattle.fwd_chunks.specs.History.{BufferHistory, CarriedChunk}
+use Rattle.fwd_session.specs.ServerAcks.{ServerAck, Accepted, evidence_of}
 use Rattle.fwd_session.specs.History.{SessionHistory, first_in, unloads}
 use Rattle.fwd_model.specs.declared.answer.Answer.{Answer}
 use Rattle.fwd_model.specs.declared.answer.Answer.TheVariants as answer
@@ -82,7 +82,7 @@ take-goes l w now m =
     >> Goes (chunk_answer (histories.given l now)) (histories.takes l w x now)) m.stands
     ∙ past-check NotNow (is_some m.worker.taken || steps.is_full histories m.worker.session) (Goes (chunk_answer (histories.given l now)) (histories.takes l w m.worker now)) (λ i. m.free i || m.room i)
 
-settle-goes : (l : Lane) (w : ℕ) (e : Evidence) (m : HasAcked l w e)
+settle-goes : (l : Lane) (w : ℕ) (e : ServerAck) (m : HasAcked l w e)
     → steps.settle histories l w
     ≡ Goes (answer.Settled (histories.entries_at l m.acked.chunk.number))
     (histories.settles l w (steps.with_session m.worker (unloads m.session)) (evidence_of m.session.setup.server m.acked))
@@ -117,11 +117,11 @@ choose-goes l w now x stands =
     past-found NoSuch (histories.worker_at l w) x (λ x. Goes (answer.Chose (histories.chosen l w now)) (histories.watches l now)) stands
 
 -- a worker without a session, which gives back the chunk that it has
-alone-some : (x : Worker SessionHistory) (c : Load) → x.taken ≡ Some c
+alone-some : (x : Worker SessionHistory) (c : CarriedChunk) → x.taken ≡ Some c
     → steps.is_idle histories x ≡ false
 alone-some x c e = ap (λ t. not (is_some t) && not (is_some x.session)) e
 
-alone-ends : (b : BufferHistory) (c : Load) (number : ℕ) → c.number ≡ number
+alone-ends : (b : BufferHistory) (c : CarriedChunk) (number : ℕ) → c.number ≡ number
     → gets_back (buffer.looks b 0) (record { number = c.number; lost = false } ∷ []) 0
     ≡ buffer.frees b number None
 alone-ends b c number e =
@@ -133,7 +133,7 @@ put-goes : (l : Lane) (w number : ℕ) (m : HasOnly l w number) (P : OutputHisto
     → P (output_history_ends l.output (steps.gives_back histories m.worker) (steps.lost_server histories Kept m.worker.session) 0)
 put-goes l w number m P h =
     subst (λ (s : Option SessionHistory). P (output_history_ends l.output (steps.gives_back histories (record { taken = m.worker.taken; session = s })) (steps.lost_server histories Kept s) 0)) (sym m.alone)
-    (subst (λ (t : Option Load). P (output_history_ends l.output (steps.gives_back histories (record { taken = t; session = None })) None 0)) (sym m.taken)
+    (subst (λ (t : Option CarriedChunk). P (output_history_ends l.output (steps.gives_back histories (record { taken = t; session = None })) None 0)) (sym m.taken)
     (subst (λ b. P (record (l.output) { buffer = b })) (sym (alone-ends l.output.buffer m.chunk number m.is)) h))
 
 admit-goes : (h : History) (o : ℕ) (l : Lane) (origin : Origin) (r : Request) (now : ℕ)

@@ -6,7 +6,7 @@ use Rattle.std.specs.Prelude.{◌⊎◌, map, filter, slice_get, ◌&&◌, ◌||
 use Rattle.std.specs.List.{flat_map}
 use Rattle.fwd_modes.specs.declared.origin.Origin.{Origin}
 use Rattle.fwd_chunks.specs.Cells.{has_number}
-use Rattle.fwd_session.specs.Evidence.{Evidence}
+use Rattle.fwd_session.specs.ServerAcks.{ServerAck}
 use Rattle.fwd_book.specs.History.{Entered, Admission, is_due, is_origin, is_settled, is_untold, request_at}
 use Rattle.fwd_book.specs.Receipts.{Receipt, once, receipt_if, receipt_of, receipts}
 use Rattle.fwd_model.specs.Books.{numbers_of}
@@ -18,7 +18,7 @@ IsEntered q [] = ⊥
 IsEntered q (a ∷ ads) = (a.request ≡ q) ⊎ IsEntered q ads
 
 -- a receipt is this request's, which was entered, and whose entries are all acknowledged
-pub record IsReceiptOf (settled : List Evidence) (ads : List Admission) (r : Receipt) : Type 0 where
+pub record IsReceiptOf (settled : List ServerAck) (ads : List Admission) (r : Receipt) : Type 0 where
   pub request : Entered
   pub entered : IsEntered request ads
   pub acknowledged : is_settled settled request ≡ true
@@ -56,7 +56,7 @@ in-either (y ∷ xs) ys zero x h = inl (zero, h)
 in-either (y ∷ xs) ys (suc i) x h =
     elim (in-either xs ys i x h) [ inl e ↦ inl (suc e.0, e.1) | inr e ↦ inr e ]
 
-one-of : (settled : List Evidence) (ads : List Admission) (q : Entered) (r : Receipt) (i : ℕ)
+one-of : (settled : List ServerAck) (ads : List Admission) (q : Entered) (r : Receipt) (i : ℕ)
     → IsEntered q ads
     → slice_get (receipt_if settled (Some q)) i ≡ Some r → IsReceiptOf settled ads r
 one-of settled ads q r i entered h = by (is_settled settled q) refl h
@@ -70,13 +70,13 @@ one-of settled ads q r i entered h = by (is_settled settled q) refl h
     by true e f = record { request = q; entered = entered; acknowledged = e; origin = first i f }
     by false e f = absurd cc
 
-of-one : (settled : List Evidence) (ads : List Admission) (x : Option Entered) (origin : Origin)
+of-one : (settled : List ServerAck) (ads : List Admission) (x : Option Entered) (origin : Origin)
     (r : Receipt) (i : ℕ) → request_at (waiting_of ads) origin ≡ x
     → slice_get (receipt_if settled x) i ≡ Some r → IsReceiptOf settled ads r
 of-one settled ads None origin r i e h = absurd cc
 of-one settled ads (Some q) origin r i e h = one-of settled ads q r i (sought ads origin q e) h
 
-of-all : (settled : List Evidence) (ads : List Admission) (origins : List Origin) (r : Receipt)
+of-all : (settled : List ServerAck) (ads : List Admission) (origins : List Origin) (r : Receipt)
     (i : ℕ)
     → slice_get (flat_map (λ origin. receipt_if settled (request_at (waiting_of ads) origin)) origins) i ≡ Some r
     → IsReceiptOf settled ads r
@@ -85,20 +85,20 @@ of-all settled ads (origin ∷ origins) r i h =
     elim (in-either (receipt_if settled (request_at (waiting_of ads) origin)) (flat_map (λ origin. receipt_if settled (request_at (waiting_of ads) origin)) origins) i r h)
     [ inl e ↦ of-one settled ads (request_at (waiting_of ads) origin) origin r e.0 refl e.1 | inr e ↦ of-all settled ads origins r e.0 e.1 ]
 
-pub receipt-of : (settled : List Evidence) (ads : List Admission) (origins : List Origin) (r : Receipt)
+pub receipt-of : (settled : List ServerAck) (ads : List Admission) (origins : List Origin) (r : Receipt)
     (i : ℕ) → slice_get (receipts settled (waiting_of ads) origins) i ≡ Some r
     → IsReceiptOf settled ads r
 receipt-of settled ads origins r i h = of-all settled ads (once origins) r i h
 
 -- ---- who is told
 
-abbrev told_numbers : ℕ → List Evidence → List Admission → List ℕ
+abbrev told_numbers : ℕ → List ServerAck → List Admission → List ℕ
 told_numbers id settled ads = numbers_of (map (λ a. a.request) (filter (is_due id settled) ads))
 
 same-test : (n : ℕ) → eqb n n ≡ true
 same-test n = grind (arith, nat_tests)
 
-told-front : (id : ℕ) (settled : List Evidence) (a : Admission) (ads : List Admission) (b : Bool)
+told-front : (id : ℕ) (settled : List ServerAck) (a : Admission) (ads : List Admission) (b : Bool)
     → is_due id settled a ≡ b
     → told_numbers id settled (a ∷ ads)
     ≡ cond b (a.request.origin.request ∷ told_numbers id settled ads) (told_numbers id settled ads)
@@ -109,7 +109,7 @@ or-true : (b : Bool) → (b || true) ≡ true
 or-true true = refl
 or-true false = refl
 
-more : (id n : ℕ) (settled : List Evidence) (a : Admission) (ads : List Admission)
+more : (id n : ℕ) (settled : List ServerAck) (a : Admission) (ads : List Admission)
     → has_number n (told_numbers id settled ads) ≡ true
     → has_number n (told_numbers id settled (a ∷ ads)) ≡ true
 more id n settled a ads h = by (is_due id settled a) refl
@@ -122,7 +122,7 @@ more id n settled a ads h = by (is_due id settled a) refl
         ∙ or-true (eqb a.request.origin.request n)
     by false e = ap (has_number n) (told-front id settled a ads false e) ∙ h
 
-first-told : (settled : List Evidence) (a : Admission) (ads : List Admission)
+first-told : (settled : List ServerAck) (a : Admission) (ads : List Admission)
     → is_settled settled a.request ≡ true
     → has_number a.request.origin.request (told_numbers a.request.origin.conn settled (unmarked a ∷ ads)) ≡ true
 first-told settled a ads all =
@@ -131,7 +131,7 @@ first-told settled a ads all =
     ap (has_number a.request.origin.request) (told-front id settled (unmarked a) ads true due)
     ∙ ap (λ b. b || has_number a.request.origin.request (told_numbers id settled ads)) (same-test a.request.origin.request)
 
-pub is-told : (settled : List Evidence) (ads : List Admission) (q : Entered)
+pub is-told : (settled : List ServerAck) (ads : List Admission) (q : Entered)
     → IsEntered q ads → is_settled settled q ≡ true
     → has_number q.origin.request (told_numbers q.origin.conn settled (map unmarked ads)) ≡ true
 is-told settled [] q entered all = absurd entered

@@ -25,9 +25,9 @@ use Rattle.fwd_modes.specs.Requests.{Request}
 use Rattle.fwd_match.specs.Patterns.{route}
 use Rattle.fwd_source.specs.History.{SourceHistory, waiting}
 use Rattle.fwd_chunks.specs.History as buffer
-use Rattle.fwd_chunks.specs.History.{Load}
+use Rattle.fwd_chunks.specs.History.{CarriedChunk}
 use Rattle.fwd_modes.specs.declared.origin.Origin.{Origin}
-use Rattle.fwd_session.specs.Evidence.{Evidence, Accepted, evidence_of}
+use Rattle.fwd_session.specs.ServerAcks.{ServerAck, Accepted, evidence_of}
 use Rattle.fwd_session.specs.History.{SessionHistory, first_in}
 use Rattle.fwd_book.specs.History as book
 use Rattle.fwd_model.specs.declared.event.Event.{Event}
@@ -68,7 +68,7 @@ pub record MayTake (l : Lane) (w : ℕ) : Type 0 where
   pub room : steps.is_full histories worker.session ≡ false
 
 -- a worker of the output whose session has an acknowledgement, which is this evidence
-pub record HasAcked (l : Lane) (w : ℕ) (e : Evidence) : Type 0 where
+pub record HasAcked (l : Lane) (w : ℕ) (e : ServerAck) : Type 0 where
   pub worker : Worker SessionHistory
   pub stands : histories.worker_at l w ≡ Some worker
   pub session : SessionHistory
@@ -93,7 +93,7 @@ pub record HasOnly (l : Lane) (w number : ℕ) : Type 0 where
   pub worker : Worker SessionHistory
   pub stands : histories.worker_at l w ≡ Some worker
   pub alone : worker.session ≡ None
-  pub chunk : Load
+  pub chunk : CarriedChunk
   pub taken : worker.taken ≡ Some chunk
   pub is : chunk.number ≡ number
 

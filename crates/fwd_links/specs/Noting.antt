@@ -2,7 +2,7 @@
 use Rattle.std.specs.Prelude.{◌≡◌, ◌⊎◌, true, [], ◌∷◌, ◌++◌}
 use Rattle.fwd_links.specs.declared.mailbox.Notice.{Notice}
 use Rattle.fwd_links.specs.declared.mailbox.Notices.{Notices}
-use Rattle.fwd_links.specs.declared.mailbox.Refusal.{Refusal}
+use Rattle.fwd_links.specs.declared.mailbox.RefusedChunk.{RefusedChunk}
 
 -- one notice more stands behind the others
 pub record IsNoted (s : Notices) (notice : Notice) (t : Notices) : Type 0 where
@@ -22,7 +22,7 @@ Notes s notice t = IsNoted s notice t ⊎ IsMissed s t
 
 -- of the chunks that servers seem to refuse, one more stands behind the others; or, where memory is
 -- refused, none does
-abbrev pub NotesRefusal : Notices → Refusal → Notices → Type 0
+abbrev pub NotesRefusal : Notices → RefusedChunk → Notices → Type 0
 NotesRefusal s refusal t =
     ((t.refused.items ≡ s.refused.items ++ refusal ∷ []) ⊎ (t.refused.items ≡ s.refused.items))
     × (t.all ≡ s.all) × (t.missed ≡ s.missed)

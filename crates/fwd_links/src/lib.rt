@@ -16,7 +16,7 @@ mod wire;
 
 pub use fault::WaitFault;
 pub use link::{TcpHub, TcpLink};
-pub use mailbox::{Mailbox, Notice, Notices, Refusal};
+pub use mailbox::{Mailbox, Notice, Notices, RefusedChunk};
 pub use signs::Signs;
-pub use waiting::{Looking, SharedWait, WorkerWait, WorkerWaker};
+pub use waiting::{SharedWait, WaitMode, WorkerWait, WorkerWaker};
 pub use wants::lacks_descriptors;

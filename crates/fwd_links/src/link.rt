@@ -7,7 +7,7 @@ use crate::signs::Signs;
 use crate::waiting::SharedWait;
 use crate::wants::{lacks_descriptors, lacks_memory};
 use crate::wire::Wire;
-use fwd_chunks::Pieces;
+use fwd_chunks::WriteSlices;
 use fwd_workers::{Hub, Link, LinkFault, Read};
 use std::io;
 use std::net::{Net, SocketAddr};
@@ -47,7 +47,11 @@ impl Link for TcpLink {
         self.wire.write(bytes)
     }
 
-    fn write_pieces<R: Wait>(&mut self, _rt: &R, pieces: &Pieces<'_>) -> Result<usize, LinkFault> {
+    fn write_pieces<R: Wait>(
+        &mut self,
+        _rt: &R,
+        pieces: &WriteSlices<'_>,
+    ) -> Result<usize, LinkFault> {
         self.wire.write_pieces(pieces)
     }
 }

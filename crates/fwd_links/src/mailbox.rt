@@ -4,7 +4,7 @@ ghost use Rattle.std.specs.Prelude.{◌≡◌, [], false};
 ghost use Rattle.fwd_links.specs.Noting as noting;
 
 use crate::signs::Signs;
-use fwd_workers::{News, Refused};
+use fwd_workers::{Refused, WorkerEvent};
 use mio::Waker;
 use std::alloc::Global;
 use std::mem;
@@ -18,12 +18,12 @@ pub struct Notice {
     pub output: u16,
     /// The worker's number.
     pub worker: u16,
-    pub news: News,
+    pub news: WorkerEvent,
 }
 
 /// What a worker told of a chunk that a server seems to refuse.
 #[derive(Clone, Copy)]
-pub struct Refusal {
+pub struct RefusedChunk {
     /// The number of the worker's output.
     pub output: u16,
     pub refused: Refused,
@@ -35,7 +35,7 @@ pub struct Notices {
     /// In the order in which they were told.
     pub all: Vec<Notice>,
     /// The chunks that servers seem to refuse, in that order.
-    pub refused: Vec<Refusal>,
+    pub refused: Vec<RefusedChunk>,
     /// Memory was refused for more of them.
     pub missed: bool,
 }
@@ -65,7 +65,7 @@ impl Notices {
 
     /// A worker told of a chunk that a server seems to refuse. Where memory is refused, it is as if
     /// it had not.
-    fn note_refused(&mut self, refusal: Refusal)
+    fn note_refused(&mut self, refusal: RefusedChunk)
         ensures { noting.NotesRefusal self.old refusal self.new }
     {
         let _ = self.refused.push(refusal);
@@ -78,7 +78,7 @@ impl Notices {
 pub struct Mailbox {
     notices: Mutex<Notices>,
     /// Something was told that the reader has not taken.
-    is_told: AtomicBool,
+    has_news: AtomicBool,
     /// The reader sleeps, or is about to: it is to be woken.
     is_asleep: AtomicBool,
     /// Ends the reader's sleep.
@@ -91,7 +91,7 @@ impl Mailbox {
     pub fn new(alloc: Global, waker: Waker, signs: Signs) -> Mailbox {
         Mailbox {
             notices: Mutex::new(Notices::none(alloc)),
-            is_told: AtomicBool::new(false),
+            has_news: AtomicBool::new(false),
             is_asleep: AtomicBool::new(false),
             waker,
             signs,
@@ -107,29 +107,29 @@ impl Mailbox {
 
     /// A worker tells that a server seems to refuse a chunk. Where memory is refused it is not
     /// told.
-    pub fn tell_refused<R: Wait>(&self, rt: &R, refusal: Refusal) {
+    pub fn tell_refused<R: Wait>(&self, rt: &R, refusal: RefusedChunk) {
         self.notices.lock(rt).note_refused(refusal);
         self.call();
     }
 
     /// Something was told, or is to be looked at: the reader is woken where it sleeps.
     pub fn call(&self) {
-        self.is_told.store(true, Ordering::SeqCst);
+        self.has_news.store(true, Ordering::SeqCst);
         if self.is_asleep.swap(false, Ordering::SeqCst) {
             let _ = self.waker.wake();
         }
     }
 
     /// Whether something was told that the reader has not taken.
-    pub fn is_told(&self) -> bool {
-        self.is_told.load(Ordering::SeqCst)
+    pub fn has_news(&self) -> bool {
+        self.has_news.load(Ordering::SeqCst)
     }
 
     /// The reader is about to sleep: what is told from now on wakes it. It may sleep where this
     /// says so; else something was told before.
     pub fn fall_asleep(&self) -> bool {
         self.is_asleep.store(true, Ordering::SeqCst);
-        !self.is_told()
+        !self.has_news()
     }
 
     /// The reader sleeps no more.
@@ -139,7 +139,7 @@ impl Mailbox {
 
     /// What workers told since the last call.
     pub fn take<R: Wait>(&self, rt: &R, alloc: Global) -> Notices {
-        if !self.is_told.swap(false, Ordering::SeqCst) {
+        if !self.has_news.swap(false, Ordering::SeqCst) {
             return Notices::none(alloc);
         }
         let mut guard = self.notices.lock(rt);

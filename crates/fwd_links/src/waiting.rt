@@ -17,7 +17,7 @@ use std::{io, mem};
 /// its output has entries: one that was lost is free again at some moment, of which nobody tells.
 const PAUSE: u64 = 10;
 
-/// The same where its output has none: it is rung once a chunk is closed.
+/// The same where its output has none: it is woken once a chunk is closed.
 const LONG_PAUSE: u64 = 100;
 
 /// How long a worker waits for a server that owes something, in milliseconds.
@@ -44,16 +44,16 @@ const STREAM: Token = Token(1);
 /// microseconds, since the processor pauses between two looks.
 const LOOKS: u32 = 250;
 
-/// Whether a worker is to be rung, as its thread and those that ring it share it.
+/// Whether a worker is to be woken, as its thread and those that wake it share it.
 #[derive(Drop)]
 struct Signal {
-    /// The worker looks for a chunk, and was not rung since it began to.
+    /// The worker looks for a chunk, and was not woken since it began to.
     is_awaited: AtomicBool,
-    /// It sleeps meanwhile, or is about to: a ring has to wake it.
+    /// It sleeps meanwhile, or is about to: a wake has to reach it.
     is_asleep: AtomicBool,
 }
 
-/// Rings a worker that looks for a chunk, from another thread.
+/// Wakes a worker that looks for a chunk, from another thread.
 #[derive(Drop)]
 pub struct WorkerWaker {
     waker: Waker,
@@ -61,17 +61,17 @@ pub struct WorkerWaker {
 }
 
 impl WorkerWaker {
-    /// Whether the worker looks for a chunk, and was not rung since it began to.
+    /// Whether the worker looks for a chunk, and was not woken since it began to.
     pub fn is_awaited(&self) -> bool {
         self.signal.is_awaited.load(Ordering::SeqCst)
     }
 
     /// A chunk was closed: a worker that looks for one, or found none since it last began to look,
-    /// looks again. One that is at work with a chunk, or was rung already, is left alone. It says
-    /// whether the worker was rung; that costs a call of the system where the worker sleeps. A
-    /// worker that was rung and finds no chunk rings no other one: the chunk is taken, or no server
-    /// can be tried.
-    pub fn ring(&self) -> bool {
+    /// looks again. One that is at work with a chunk, or was woken already, is left alone. It says
+    /// whether the worker was woken; that costs a call of the system where the worker sleeps. A
+    /// worker that was woken and finds no chunk wakes no other one: the chunk is taken, or no
+    /// server can be tried.
+    pub fn wake(&self) -> bool {
         if !self.signal.is_awaited.swap(false, Ordering::SeqCst) {
             return false;
         }
@@ -84,7 +84,7 @@ impl WorkerWaker {
 
 /// What a worker that looks for a chunk knows when it begins to wait.
 #[derive(Clone, Copy)]
-pub enum Looking {
+pub enum WaitMode {
     /// It was at work just now: it looks for a moment before it sleeps.
     Soon,
     /// Its output has entries.
@@ -97,7 +97,7 @@ pub enum Looking {
 /// free. A link that borrowed the wait would have a lifetime of which no proof is found.
 pub type SharedWait = Arc<Mutex<WorkerWait>>;
 
-/// How a worker waits: until it is rung, or its stream tells of itself. All that it takes to wait
+/// How a worker waits: until it is woken, or its stream tells of itself. All that it takes to wait
 /// and to connect is made once, so that it takes no memory later; and memory is kept in reserve for
 /// what a session takes.
 #[derive(Drop)]
@@ -113,16 +113,16 @@ pub struct WorkerWait {
     signal: Arc<Signal>,
     /// The worker looks for a chunk.
     is_idle: bool,
-    /// It was rung before it had its stream, which its gate was not told yet.
-    was_rung: bool,
+    /// It was woken before it had its stream, which its gate was not told yet.
+    was_woken: bool,
     /// The stream told of itself since it was last read empty.
-    is_told: bool,
+    is_readable: bool,
     /// The stream told that the other side closed, or that it failed, which it tells once.
     is_closing: bool,
 }
 
 impl WorkerWait {
-    /// The wait of a worker without a stream, and what rings it.
+    /// The wait of a worker without a stream, and what wakes it.
     pub fn new<R: Net>(rt: &R, alloc: Global) -> Result<(SharedWait, WorkerWaker), WaitFault> {
         let events = Events::with_capacity(alloc, 2)?;
         let connected = Events::with_capacity(alloc, 1)?;
@@ -147,8 +147,8 @@ impl WorkerWait {
             is_lacking: false,
             signal,
             is_idle: false,
-            was_rung: false,
-            is_told: true,
+            was_woken: false,
+            is_readable: true,
             is_closing: false,
         };
         Ok((Arc::new(alloc, Mutex::new(wait))?, waker))
@@ -156,8 +156,8 @@ impl WorkerWait {
 
     /// The worker has a stream, which ends its waits from now on, and looks for no chunk.
     pub fn start(&mut self, stream: &mut TcpStream) -> io::Result<()> {
-        self.was_rung = self.work();
-        self.is_told = true;
+        self.was_woken = self.work();
+        self.is_readable = true;
         self.is_closing = false;
         let interest = Interest::READABLE | Interest::WRITABLE;
         self.poll.registry().register(stream, STREAM, interest)
@@ -184,14 +184,14 @@ impl WorkerWait {
         self.connecting.registry().deregister(stream)
     }
 
-    /// Waits so long (milliseconds), or until the worker is rung or its stream tells of itself, and
-    /// says whether it was told something.
+    /// Waits so long (milliseconds), or until the worker is woken or its stream tells of itself,
+    /// and says whether it was told something.
     fn wait(&mut self, longest: u64) -> bool {
         let longest = Duration::from_millis(longest);
         let _ = self.poll.poll(&mut self.events, Some(longest));
         for event in self.events.iter() {
             if event.token() == STREAM {
-                self.is_told = true;
+                self.is_readable = true;
                 self.is_closing = self.is_closing || event.is_read_closed() || event.is_error();
             }
         }
@@ -201,29 +201,29 @@ impl WorkerWait {
     /// Whether the stream is to be read: it told of itself since it was last read empty, or the
     /// worker looks for a chunk, and is to see first whether its server closed.
     pub fn is_to_be_read(&self) -> bool {
-        self.is_told || self.is_idle
+        self.is_readable || self.is_idle
     }
 
     /// A read found nothing, or did not fill its room: the stream will tell of what comes.
     pub fn is_empty_now(&mut self) {
-        self.is_told = self.is_closing;
+        self.is_readable = self.is_closing;
     }
 
-    /// The worker looks for a chunk at once. A chunk that is closed from now on rings it.
-    pub fn look(&mut self) {
+    /// The worker looks for a chunk at once. A chunk that is closed from now on wakes it.
+    pub fn look_for_chunk(&mut self) {
         let _ = self.turn_to(true);
     }
 
-    /// The same, once it was rung, or its stream has bytes, or for a while. It says whether it was
-    /// rung.
-    pub fn look_later(&mut self, looking: Looking, signs: &Signs) -> bool {
+    /// The same, once it was woken, or its stream has bytes, or for a while. It says whether it was
+    /// woken.
+    pub fn wait_for_chunk(&mut self, mode: WaitMode, signs: &Signs) -> bool {
         if self.turn_to(true) {
             return true;
         }
-        let (looks, pause) = match looking {
-            Looking::Soon => (LOOKS, PAUSE),
-            Looking::Later => (1, PAUSE),
-            Looking::Idle => (1, LONG_PAUSE),
+        let (looks, pause) = match mode {
+            WaitMode::Soon => (LOOKS, PAUSE),
+            WaitMode::Later => (1, PAUSE),
+            WaitMode::Idle => (1, LONG_PAUSE),
         };
         if self.is_awaited_for(looks) {
             self.sleep(pause, signs);
@@ -231,17 +231,17 @@ impl WorkerWait {
         self.turn_to(true)
     }
 
-    /// The worker looks for a chunk from now on, or for none. It says whether it was rung since it
+    /// The worker looks for a chunk from now on, or for none. It says whether it was woken since it
     /// last began to look, and that was not said yet: in one step with what it turns to, so that no
-    /// ring comes between.
+    /// wake comes between.
     fn turn_to(&mut self, is_idle: bool) -> bool {
         let was_idle = mem::replace(&mut self.is_idle, is_idle);
         let was_awaited = self.signal.is_awaited.swap(is_idle, Ordering::SeqCst);
-        let was_rung = mem::replace(&mut self.was_rung, false);
-        was_rung || (was_idle && !was_awaited)
+        let was_woken = mem::replace(&mut self.was_woken, false);
+        was_woken || (was_idle && !was_awaited)
     }
 
-    /// Whether the worker was not rung while it looked so often.
+    /// Whether the worker was not woken while it looked so often.
     fn is_awaited_for(&self, looks: u32) -> bool {
         for _ in 0..looks {
             if !self.signal.is_awaited.load(Ordering::SeqCst) {
@@ -252,7 +252,7 @@ impl WorkerWait {
         true
     }
 
-    /// Sleeps so long (milliseconds), unless it is rung before.
+    /// Sleeps so long (milliseconds), unless it is woken before.
     fn sleep(&mut self, longest: u64, signs: &Signs) {
         self.refill(signs);
         self.signal.is_asleep.store(true, Ordering::SeqCst);
@@ -262,8 +262,8 @@ impl WorkerWait {
         self.signal.is_asleep.store(false, Ordering::SeqCst);
     }
 
-    /// The worker looks for no chunk. It says whether it was rung since it last began to look: the
-    /// ring may be for a chunk that it does not take.
+    /// The worker looks for no chunk. It says whether it was woken since it last began to look: the
+    /// wake may be for a chunk that it does not take.
     pub fn work(&mut self) -> bool {
         self.turn_to(false)
     }
@@ -292,13 +292,13 @@ impl WorkerWait {
         }
         self.reserve.fill();
         if !self.reserve.is_empty() {
-            self.excuse(signs);
+            self.end_lack(signs);
         }
     }
 
     /// The worker lacks no memory, or has nothing to do that takes any. Sources that hold
     /// unfinished requests must be read on then, or nobody would give memory back.
-    pub fn excuse(&mut self, signs: &Signs) {
+    pub fn end_lack(&mut self, signs: &Signs) {
         if self.is_lacking {
             self.is_lacking = false;
             signs.have();

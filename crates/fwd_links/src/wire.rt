@@ -9,7 +9,7 @@ ghost use Rattle.fwd_workers.specs.Links.{DidWrite, count_read, read_into};
 use crate::answer::{given, written};
 use crate::signs::Signs;
 use crate::waiting::SharedWait;
-use fwd_chunks::{PIECE_LIMIT, Pieces};
+use fwd_chunks::{PIECE_LIMIT, WriteSlices};
 use fwd_workers::{Calls, LinkFault, Read};
 use mio::net::TcpStream;
 use std::io::{ErrorKind, IoSlice, Read as ReadBytes, Write};
@@ -32,7 +32,7 @@ fn buffer<'a>(pieces: &[&'a [u8]], place: usize) -> IoSlice<'a>
 }
 
 /// All these pieces, as the buffers of one write: their bytes, in their order.
-fn buffers<'a>(pieces: &Pieces<'a>) -> [IoSlice<'a>; PIECE_LIMIT]
+fn buffers<'a>(pieces: &WriteSlices<'a>) -> [IoSlice<'a>; PIECE_LIMIT]
     ensures { io_slices_bytes result ≡ concat pieces.now }
 {
     // For the contract alone: it tells that there are no more pieces than buffers.
@@ -252,7 +252,7 @@ impl Wire {
     }
 
     /// The same of pieces, as if they were one.
-    pub fn write_pieces(&mut self, pieces: &Pieces<'_>) -> Result<usize, LinkFault>
+    pub fn write_pieces(&mut self, pieces: &WriteSlices<'_>) -> Result<usize, LinkFault>
         ensures told { self.new.calls.list
             ≡ self.old.calls.list ++ DidWrite (concat pieces.now) result ∷ [] }
         ensures within { IfOk result (λ n. n ≤ length (concat pieces.now)) }

@@ -11,7 +11,7 @@ use Rattle.fwd_settings.specs.declared.settings.Settings.{Settings}
 use Rattle.fwd_core.specs.Config.{Config}
 use Rattle.fwd_config.specs.Configs.{IsConfig, parts_known, parts_set}
 use Rattle.fwd_settings.specs.declared.settings.OutputSettings.{OutputSettings}
-use Rattle.fwd_outlets.specs.declared.output.Output.{Output}
+use Rattle.fwd_routing.specs.declared.output.Output.{Output}
 use Rattle.fwd_loop.specs.Pools.{all_made_of, hop_of, shown, shown_by}
 
 -- settings in their ranges have at most 64

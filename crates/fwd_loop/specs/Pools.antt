@@ -5,7 +5,7 @@ use Rattle.fwd_settings.specs.declared.settings.OutputSettings.{OutputSettings}
 use Rattle.fwd_settings.specs.declared.settings.WhenFull.{WhenFull}
 use Rattle.fwd_settings.specs.declared.settings.WhenFull.TheVariants.{Close, Wait}
 use Rattle.fwd_config.specs.Configs.{OutputParts, parts_set}
-use Rattle.fwd_outlets.specs.declared.output.Output.{Output}
+use Rattle.fwd_routing.specs.declared.output.Output.{Output}
 
 -- where an output's servers are reached, in their order, and whether sources wait where it is full
 pub record Hop : Type 0 where

@@ -7,8 +7,10 @@ use crate::listener::{Arrival, Listener};
 use crate::readers::ReaderDesk;
 use fwd_handshake::{Nonces, Security};
 use fwd_msgpack::Limits;
-use fwd_outlets::{Caller, Connection, Connections, Fact, MonitorPeer, Want, Watch};
 use fwd_peers::SourcePeer;
+use fwd_routing::{
+    Connection, Connections, JournalEvent, ListenerKind, MemoryFor, MonitorPeer, Observer,
+};
 use fwd_source::Source;
 use mio::net::TcpStream;
 use mio::{Registry, Token};
@@ -56,7 +58,7 @@ pub(crate) struct Acceptor {
 
 /// Where connections go that come at a moment.
 #[derive(Drop)]
-pub(crate) struct NewComers<'a> {
+pub(crate) struct Incoming<'a> {
     pub alloc: Global,
     pub registry: &'a Registry,
     pub connections: &'a mut Connections,
@@ -69,7 +71,7 @@ pub(crate) struct NewComers<'a> {
     pub now: u64,
 }
 
-impl<'a> NewComers<'a> {
+impl<'a> Incoming<'a> {
     /// A connection comes. Where the system or memory refuses it, which is the only error, it is
     /// dropped.
     fn add(&mut self, connection: Connection) -> Result<(), AllocError> {
@@ -90,11 +92,11 @@ impl SourceSetup {
 
 impl Acceptor {
     /// One of the listeners told that connections wait.
-    pub fn called(&mut self, token: Token) {
+    pub fn notified(&mut self, token: Token) {
         if token == SOURCES {
-            self.sources.called();
+            self.sources.notified();
         } else if let Some(listener) = &mut self.monitors {
-            listener.called();
+            listener.notified();
         }
     }
 
@@ -104,18 +106,18 @@ impl Acceptor {
     }
 
     /// Tells where connections come in, and where fewer than are set are taken.
-    pub fn tell<W: Watch>(&self, watch: &mut W) {
+    pub fn tell<W: Observer>(&self, observer: &mut W) {
         if let Some(files) = self.few_files {
             let sources = self.limit;
-            watch.see(Fact::FewFiles { files, sources });
+            observer.observe(JournalEvent::FewFiles { files, sources });
         }
-        watch.see(Fact::Listening {
-            caller: Caller::Source,
+        observer.observe(JournalEvent::Listening {
+            listener: ListenerKind::Source,
             address: self.sources.address(),
         });
         if let Some(listener) = &self.monitors {
-            watch.see(Fact::Listening {
-                caller: Caller::Monitor,
+            observer.observe(JournalEvent::Listening {
+                listener: ListenerKind::Monitor,
                 address: listener.address(),
             });
         }
@@ -123,26 +125,26 @@ impl Acceptor {
 
     /// Takes the sources that wait. One too many takes the place of one that is idle, or is closed
     /// at once. It says whether memory was refused for one.
-    pub fn accept_sources<R: Wait, W: Watch>(
+    pub fn accept_sources<R: Wait, W: Observer>(
         &mut self,
         rt: &R,
-        comers: &mut NewComers<'_>,
-        watch: &mut W,
+        incoming: &mut Incoming<'_>,
+        observer: &mut W,
     ) -> bool {
         for _ in 0..ACCEPTS {
             let (stream, peer) = match self.sources.next() {
                 Arrival::Came(stream, peer) => (stream, peer),
                 Arrival::Starved => {
-                    watch.see(Fact::Descriptors(Caller::Source));
+                    observer.observe(JournalEvent::Descriptors(ListenerKind::Source));
                     return false;
                 }
                 Arrival::None => return false,
             };
-            if self.standing(comers) >= self.limit && !self.free_place(comers, watch) {
-                let caller = Caller::Source;
-                watch.see(Fact::OverLimit { caller, peer });
-            } else if self.begin(rt, comers, stream, peer).is_err() {
-                watch.see(Fact::Memory(Want::Source(peer)));
+            if self.open_sources(incoming) >= self.limit && !self.free_place(incoming, observer) {
+                let listener = ListenerKind::Source;
+                observer.observe(JournalEvent::OverLimit { listener, peer });
+            } else if self.begin(rt, incoming, stream, peer).is_err() {
+                observer.observe(JournalEvent::Memory(MemoryFor::Source(peer)));
                 return true;
             }
         }
@@ -153,18 +155,18 @@ impl Acceptor {
     /// idle for so long, and says whether one was. Where none was, the other readers are asked to
     /// do so in their next turns, and none is looked for again within the millisecond. One list of
     /// all readers' sources would be a lock that each read takes.
-    fn free_place<W: Watch>(&mut self, comers: &mut NewComers<'_>, watch: &mut W) -> bool {
-        let Some(limit) = comers.idle_limit else {
+    fn free_place<W: Observer>(&mut self, incoming: &mut Incoming<'_>, observer: &mut W) -> bool {
+        let Some(limit) = incoming.idle_limit else {
             return false;
         };
-        if self.none_idle == Some(comers.now) {
+        if self.none_idle == Some(incoming.now) {
             return false;
         }
-        if close_idlest(comers.connections, limit, watch, comers.now) {
+        if close_idlest(incoming.connections, limit, observer, incoming.now) {
             return true;
         }
-        self.none_idle = Some(comers.now);
-        for desk in comers.desks {
+        self.none_idle = Some(incoming.now);
+        for desk in incoming.desks {
             desk.want_place();
         }
         false
@@ -186,25 +188,25 @@ impl Acceptor {
     fn begin<R: Wait>(
         &mut self,
         rt: &R,
-        comers: &mut NewComers<'_>,
+        incoming: &mut Incoming<'_>,
         stream: TcpStream,
         peer: SocketAddr,
     ) -> Result<(), AllocError> {
         let Some(id) = self.give_id() else {
             return Ok(());
         };
-        let source = self.setup.source(comers.alloc, id)?;
-        let source = SourcePeer::new(id, stream, peer, source, comers.now);
-        match self.next_reader(comers) {
-            None => comers.add(Connection::Source(source)),
-            Some(place) => self.hand(rt, comers, place, source),
+        let source = self.setup.source(incoming.alloc, id)?;
+        let source = SourcePeer::new(id, stream, peer, source, incoming.now);
+        match self.next_reader(incoming) {
+            None => incoming.add(Connection::Source(source)),
+            Some(place) => self.hand(rt, incoming, place, source),
         }
     }
 
     /// How many sources stand, of all readers together.
-    fn standing(&self, comers: &NewComers<'_>) -> usize {
-        let own = comers.connections.sources();
-        own.saturating_add(self.others(comers.desks))
+    fn open_sources(&self, incoming: &Incoming<'_>) -> usize {
+        let own = incoming.connections.sources();
+        own.saturating_add(self.others(incoming.desks))
     }
 
     /// How many sources the other readers have, whose desks these are.
@@ -218,11 +220,11 @@ impl Acceptor {
 
     /// The place among the other readers of the one with the fewest sources, or none where the
     /// first has no more than that.
-    fn next_reader(&self, comers: &NewComers<'_>) -> Option<usize> {
-        let mut fewest = comers.connections.sources();
+    fn next_reader(&self, incoming: &Incoming<'_>) -> Option<usize> {
+        let mut fewest = incoming.connections.sources();
         let mut reader = None;
         let places = 0..usize::MAX;
-        for (place, (handed, desk)) in places.zip(self.handed.iter().zip(comers.desks)) {
+        for (place, (handed, desk)) in places.zip(self.handed.iter().zip(incoming.desks)) {
             let own = handed.saturating_sub(desk.gone());
             if own < fewest {
                 fewest = own;
@@ -236,11 +238,11 @@ impl Acceptor {
     fn hand<R: Wait>(
         &mut self,
         rt: &R,
-        comers: &NewComers<'_>,
+        incoming: &Incoming<'_>,
         place: usize,
         source: SourcePeer,
     ) -> Result<(), AllocError> {
-        let (Some(handed), Some(desk)) = (self.handed.get_mut(place), comers.desks.get(place))
+        let (Some(handed), Some(desk)) = (self.handed.get_mut(place), incoming.desks.get(place))
         else {
             return Ok(());
         };
@@ -250,23 +252,25 @@ impl Acceptor {
     }
 
     /// Takes the monitors that wait. One too many is closed at once.
-    pub fn accept_monitors<W: Watch>(&mut self, comers: &mut NewComers<'_>, watch: &mut W) {
+    pub fn accept_monitors<W: Observer>(&mut self, incoming: &mut Incoming<'_>, observer: &mut W) {
         let Some(listener) = &mut self.monitors else {
             return;
         };
         for _ in 0..ACCEPTS {
             let (stream, peer) = match listener.next() {
                 Arrival::Came(stream, peer) => (stream, peer),
-                Arrival::Starved => return watch.see(Fact::Descriptors(Caller::Monitor)),
+                Arrival::Starved => return observer.observe(JournalEvent::Descriptors(
+                    ListenerKind::Monitor,
+                )),
                 Arrival::None => return,
             };
-            if comers.connections.monitors() >= MONITORS {
-                let caller = Caller::Monitor;
-                watch.see(Fact::OverLimit { caller, peer });
+            if incoming.connections.monitors() >= MONITORS {
+                let listener = ListenerKind::Monitor;
+                observer.observe(JournalEvent::OverLimit { listener, peer });
             } else {
-                let monitor = MonitorPeer::new(comers.alloc, stream, self.has_metrics);
-                if comers.add(Connection::Monitor(monitor)).is_err() {
-                    watch.see(Fact::Memory(Want::Monitor));
+                let monitor = MonitorPeer::new(incoming.alloc, stream, self.has_metrics);
+                if incoming.add(Connection::Monitor(monitor)).is_err() {
+                    observer.observe(JournalEvent::Memory(MemoryFor::Monitor));
                 }
             }
         }

@@ -1,17 +1,17 @@
 //! What the loop waits for, reads and writes.
 
-use crate::acceptor::{Acceptor, NewComers};
+use crate::acceptor::{Acceptor, Incoming};
 use crate::fault::StartFault;
 use crate::lost_servers::{LostServers, fact_of};
 use crate::readers::ReaderDesk;
 use crate::run_clock::RunClock;
 use fwd_links::{Mailbox, Notices, Signs};
-use fwd_outlets::{
-    Connection, Connections, Fact, Figures, MonitorPeer, Outlets, Output, PageParts, Ready, Served,
-    Want, Watch,
+use fwd_peers::{CloseReason, PeerEnd, SourcePeer};
+use fwd_routing::{
+    Connection, Connections, Figures, JournalEvent, MemoryFor, MonitorPeer, MonitorVisit, Observer,
+    Output, PageParts, Ready, Router,
 };
-use fwd_peers::{PeerEnd, SourceEnd, SourcePeer};
-use fwd_workers::News;
+use fwd_workers::WorkerEvent;
 use mio::event::Event;
 use mio::{Events, Poll, Token};
 use std::alloc::{AllocError, Global};
@@ -61,7 +61,7 @@ const LOOKS: u32 = 24;
 pub(crate) struct Desk<'d, 'a> {
     /// What pages are made of.
     pub parts: PageParts<'d>,
-    pub outlets: &'d mut Outlets<'a>,
+    pub router: &'d mut Router<'a>,
     pub mailbox: &'d Mailbox,
     /// Pages are made by a thread of their own.
     pub are_pages_ordered: bool,
@@ -151,11 +151,11 @@ impl LoopMemory {
 
     /// Connections were read from a moment on (milliseconds). Where no source was, that is told,
     /// once a second at the most.
-    fn end_reading<W: Watch>(&mut self, watch: &mut W, start: u64) {
+    fn end_reading<W: Observer>(&mut self, observer: &mut W, start: u64) {
         self.signs.end_reading();
         if self.is_paused && is_past(self.told, STARVED, start) {
             self.told = Some(start);
-            watch.see(Fact::Memory(Want::Pause));
+            observer.observe(JournalEvent::Memory(MemoryFor::Pause));
         }
     }
 
@@ -169,17 +169,17 @@ impl LoopMemory {
 impl EventLoop {
     /// Takes the connections that wait at the listeners, if it has them, at a moment
     /// (milliseconds), and hands sources to the other readers, too.
-    pub fn accept<R: Wait, W: Watch>(
+    pub fn accept<R: Wait, W: Observer>(
         &mut self,
         rt: &R,
         desks: &[ReaderDesk],
-        watch: &mut W,
+        observer: &mut W,
         now: u64,
     ) {
         let Some(mut acceptor) = self.acceptor.take() else {
             return;
         };
-        let mut gate = NewComers {
+        let mut gate = Incoming {
             alloc: self.alloc,
             registry: self.poll.registry(),
             connections: &mut self.connections,
@@ -189,28 +189,28 @@ impl EventLoop {
         };
         if self.memory.is_refused(now) {
             self.memory.is_paused |= acceptor.sources.is_urgent();
-        } else if acceptor.accept_sources(rt, &mut gate, watch) {
+        } else if acceptor.accept_sources(rt, &mut gate, observer) {
             self.memory.refuse(now);
         }
-        acceptor.accept_monitors(&mut gate, watch);
+        acceptor.accept_monitors(&mut gate, observer);
         self.acceptor = Some(acceptor);
     }
 
     /// Takes a source that it was handed at a moment (milliseconds).
-    pub fn take_source<W: Watch>(&mut self, source: SourcePeer, watch: &mut W, now: u64) {
+    pub fn take_source<W: Observer>(&mut self, source: SourcePeer, observer: &mut W, now: u64) {
         let peer = source.peer();
         let registry = self.poll.registry();
         let source = Connection::Source(source);
         if self.connections.add(registry, source, now).is_err() {
-            watch.see(Fact::Memory(Want::Source(peer)));
+            observer.observe(JournalEvent::Memory(MemoryFor::Source(peer)));
             self.memory.refuse(now);
         }
     }
 
     /// Tells where connections come in, where it has the listeners.
-    pub fn tell<W: Watch>(&self, watch: &mut W) {
+    pub fn tell<W: Observer>(&self, observer: &mut W) {
         if let Some(acceptor) = &self.acceptor {
-            acceptor.tell(watch);
+            acceptor.tell(observer);
         }
     }
 
@@ -237,34 +237,39 @@ impl EventLoop {
     /// A chunk that workers settled gives memory back.
     pub fn hear(&mut self, notices: &Notices) {
         for notice in &notices.all {
-            if let News::Settled { .. } = notice.news {
+            if let WorkerEvent::Settled { .. } = notice.news {
                 self.memory.is_settled = true;
             }
         }
     }
 
     /// Hands in all tickets, and writes what that has sources told.
-    pub fn finish<R: Wait, W: Watch>(&mut self, rt: &R, outlets: &mut Outlets<'_>, watch: &mut W) {
-        outlets.collect_all(rt, &mut self.connections, watch);
-        self.write_all(watch);
+    pub fn finish<R: Wait, W: Observer>(
+        &mut self,
+        rt: &R,
+        router: &mut Router<'_>,
+        observer: &mut W,
+    ) {
+        router.collect_all(rt, &mut self.connections, observer);
+        self.write_all(observer);
     }
 
     /// Closes the connections that had their time at a moment (milliseconds), and have not shown
     /// what they are.
-    pub fn close_late<W: Watch>(&mut self, watch: &mut W, now: u64) {
+    pub fn close_late<W: Observer>(&mut self, observer: &mut W, now: u64) {
         for _ in 0..u32::MAX {
             let Some(key) = self.connections.next_late(now) else {
                 return;
             };
-            close(&mut self.connections, key, SourceEnd::NoLogin, watch);
+            close(&mut self.connections, key, CloseReason::NoLogin, observer);
         }
     }
 
     /// Closes the source that is idle longest at a moment (milliseconds), where one is idle for so
     /// long as the settings say.
-    pub fn close_idle<W: Watch>(&mut self, watch: &mut W, now: u64) {
+    pub fn close_idle<W: Observer>(&mut self, observer: &mut W, now: u64) {
         if let Some(limit) = self.idle_limit {
-            let _ = close_idlest(&mut self.connections, limit, watch, now);
+            let _ = close_idlest(&mut self.connections, limit, observer, now);
         }
     }
 
@@ -273,31 +278,31 @@ impl EventLoop {
     pub fn wait(
         &mut self,
         mailbox: &Mailbox,
-        outlets: &Outlets<'_>,
+        router: &Router<'_>,
         now: u64,
     ) -> Result<(), StartFault> {
         let connections = &self.connections;
-        let is_left = connections.ready() > 0 || connections.told() > 0;
+        let is_left = connections.ready() > 0 || connections.writable() > 0;
         let longest = if self.memory.is_paused {
-            outlets.patience(now, PAUSE)
+            router.patience(now, PAUSE)
         } else if is_left || self.is_urgent() {
             0
         } else {
-            outlets.patience(now, LONGEST)
+            router.patience(now, LONGEST)
         };
         if longest == 0 {
-            self.look(0)?;
+            self.poll_events(0)?;
         } else if !self.was_at_work || !self.finds_more(mailbox)? {
-            outlets.rest();
+            router.rest();
             self.sleep(mailbox, longest)?;
         }
-        self.was_at_work = !self.events.is_empty() || mailbox.is_told();
+        self.was_at_work = !self.events.is_empty() || mailbox.has_news();
         self.note_all();
         Ok(())
     }
 
     /// Looks what is ready, and waits for it so long at the most (milliseconds).
-    fn look(&mut self, longest: u64) -> Result<(), StartFault> {
+    fn poll_events(&mut self, longest: u64) -> Result<(), StartFault> {
         let longest = Duration::from_millis(longest);
         let looked = self.poll.poll(&mut self.events, Some(longest));
         looked.map_err(|_| StartFault::Poll)
@@ -306,8 +311,8 @@ impl EventLoop {
     /// Whether something is ready or told soon: it is looked for a few times.
     fn finds_more(&mut self, mailbox: &Mailbox) -> Result<bool, StartFault> {
         for _ in 0..LOOKS {
-            self.look(0)?;
-            if !self.events.is_empty() || mailbox.is_told() {
+            self.poll_events(0)?;
+            if !self.events.is_empty() || mailbox.has_news() {
                 return Ok(true);
             }
         }
@@ -317,7 +322,7 @@ impl EventLoop {
     /// Sleeps until something is ready or told, so long at the most (milliseconds).
     fn sleep(&mut self, mailbox: &Mailbox, longest: u64) -> Result<(), StartFault> {
         let longest = if mailbox.fall_asleep() { longest } else { 0 };
-        let looked = self.look(longest);
+        let looked = self.poll_events(longest);
         mailbox.awake();
         looked
     }
@@ -329,7 +334,7 @@ impl EventLoop {
                 WAKER => {}
                 SOURCES | MONITORS => {
                     if let Some(acceptor) = &mut self.acceptor {
-                        acceptor.called(event.token());
+                        acceptor.notified(event.token());
                     }
                 }
                 Token(key) => note(&mut self.connections, key, event),
@@ -338,20 +343,20 @@ impl EventLoop {
     }
 
     /// Writes what waits to be sent to each connection that is told.
-    pub fn write_all<W: Watch>(&mut self, watch: &mut W) {
-        for _ in 0..self.connections.told() {
-            self.write_next(watch);
+    pub fn write_all<W: Observer>(&mut self, observer: &mut W) {
+        for _ in 0..self.connections.writable() {
+            self.write_next(observer);
         }
     }
 
     /// Writes what waits to be sent to the next connection that is told.
-    fn write_next<W: Watch>(&mut self, watch: &mut W) {
-        let Some((key, connection)) = self.connections.next_told() else {
+    fn write_next<W: Observer>(&mut self, observer: &mut W) {
+        let Some((key, connection)) = self.connections.next_writable() else {
             return;
         };
         match connection {
             Connection::Source(source) => {
-                let _ = tell_end(source, watch);
+                let _ = tell_end(source, observer);
                 let stands = source.write();
                 let is_free = source.is_free();
                 if !stands {
@@ -367,27 +372,32 @@ impl EventLoop {
     /// Reads each connection that is ready, once, and has what it asks for admitted: for some
     /// milliseconds, or until workers tell something, and those that are left in a later turn. As
     /// long as memory is refused no source is read, which is told when that begins.
-    pub fn read_all<R: Wait + Clock, W: Watch>(
+    pub fn read_all<R: Wait + Clock, W: Observer>(
         &mut self,
         rt: &R,
         desk: &mut Desk<'_, '_>,
-        watch: &mut W,
+        observer: &mut W,
         clock: &mut RunClock<'_, R>,
     ) {
         let start = clock.moment();
         self.memory.begin_reading(start);
         for _ in 0..self.connections.ready() {
             desk.now = clock.moment();
-            self.read_next(rt, desk, watch);
-            if desk.mailbox.is_told() || desk.now.saturating_sub(start) >= READING {
+            self.read_next(rt, desk, observer);
+            if desk.mailbox.has_news() || desk.now.saturating_sub(start) >= READING {
                 break;
             }
         }
-        self.memory.end_reading(watch, start);
+        self.memory.end_reading(observer, start);
     }
 
     /// Reads the next connection that is ready.
-    fn read_next<R: Wait, W: Watch>(&mut self, rt: &R, desk: &mut Desk<'_, '_>, watch: &mut W) {
+    fn read_next<R: Wait, W: Observer>(
+        &mut self,
+        rt: &R,
+        desk: &mut Desk<'_, '_>,
+        observer: &mut W,
+    ) {
         let Some(ready) = self.connections.next_ready() else {
             return;
         };
@@ -403,8 +413,8 @@ impl EventLoop {
             }
             Connection::Source(source) => {
                 let again = read_source(source, self.alloc, &mut self.room, to_end, desk.now);
-                let waits = desk.outlets.admit_all(rt, source, desk.now);
-                if tell_end(source, watch) {
+                let waits = desk.router.admit_all(rt, source, desk.now);
+                if tell_end(source, observer) {
                     self.memory.refuse(desk.now);
                 }
                 after_visit(source, again, waits, to_end)
@@ -413,7 +423,7 @@ impl EventLoop {
                 match serve_monitor(rt, self.alloc, desk, monitor, &mut self.room) {
                     Ok(after) => after,
                     Err(_) => {
-                        watch.see(Fact::Memory(Want::Monitor));
+                        observer.observe(JournalEvent::Memory(MemoryFor::Monitor));
                         After::Goes
                     }
                 }
@@ -459,9 +469,9 @@ fn serve_monitor<R: Wait>(
         }
     }
     Ok(match served {
-        Served::Again => After::Again,
-        Served::Rests => After::Rests,
-        Served::Ended => After::Goes,
+        MonitorVisit::Again => After::Again,
+        MonitorVisit::Rests => After::Rests,
+        MonitorVisit::Ended => After::Goes,
     })
 }
 
@@ -480,7 +490,7 @@ fn read_source(
     let most = source.portion(room.len());
     let again = source.hear(alloc, &mut room[..most], to_end, now);
     if source.is_too_long() {
-        source.refuse(SourceEnd::NoLogin);
+        source.refuse(CloseReason::NoLogin);
     }
     again
 }
@@ -516,62 +526,67 @@ fn note(connections: &mut Connections, key: usize, event: &Event) {
     if event.is_readable() || is_closing {
         connections.note_ready(key, is_closing);
     } else {
-        connections.note_told(key);
+        connections.note_writable(key);
     }
 }
 
-/// The connection of a key goes, and a watch is told why, where it is a source.
-fn close<W: Watch>(connections: &mut Connections, key: usize, why: SourceEnd, watch: &mut W) {
+/// The connection of a key goes, and an observer is told why, where it is a source.
+fn close<W: Observer>(
+    connections: &mut Connections,
+    key: usize,
+    why: CloseReason,
+    observer: &mut W,
+) {
     if let Some(Connection::Source(source)) = connections.at(key) {
         source.refuse(why);
-        let _ = tell_end(source, watch);
+        let _ = tell_end(source, observer);
     }
     connections.remove(key);
 }
 
 /// Closes the source that has been silent longest at a moment (milliseconds), where it has been for
 /// so long (milliseconds) and nothing is owed, and says whether there was one.
-pub(crate) fn close_idlest<W: Watch>(
+pub(crate) fn close_idlest<W: Observer>(
     connections: &mut Connections,
     limit: u64,
-    watch: &mut W,
+    observer: &mut W,
     now: u64,
 ) -> bool {
     let Some(key) = connections.idlest(limit, now) else {
         return false;
     };
-    close(connections, key, SourceEnd::Idle, watch);
+    close(connections, key, CloseReason::Idle, observer);
     true
 }
 
-/// A watch is told why the relay ends a source, where it does and that was not told yet. It says
-/// whether that is for want of memory.
-fn tell_end<W: Watch>(source: &mut SourcePeer, watch: &mut W) -> bool {
+/// An observer is told why the relay ends a source, where it does and that was not told yet. It
+/// says whether that is for want of memory.
+fn tell_end<W: Observer>(source: &mut SourcePeer, observer: &mut W) -> bool {
     let Some(end) = source.why_ended() else {
         return false;
     };
-    watch.see(Fact::of_source(source.peer(), end, source.first_tag()));
+    observer.observe(JournalEvent::of_source(source.peer(), end, source.first_tag()));
     matches!(end, PeerEnd::Memory)
 }
 
-/// A watch is told what workers told.
-pub(crate) fn tell_all<W: Watch>(
+/// An observer is told what workers told.
+pub(crate) fn tell_all<W: Observer>(
     notices: &Notices,
     outputs: &[Output],
     lost_servers: &mut LostServers,
-    watch: &mut W,
+    observer: &mut W,
 ) {
     if notices.missed {
-        watch.see(Fact::Memory(Want::News));
+        observer.observe(JournalEvent::Memory(MemoryFor::News));
     }
     for notice in &notices.all {
-        if let Some(fact) = lost_servers.hear(outputs, notice) {
-            watch.see(fact);
+        if let Some(event) = lost_servers.hear(outputs, notice) {
+            observer.observe(event);
         }
     }
     for refusal in &notices.refused {
-        if let Some(fact) = fact_of(outputs, refusal) {
-            watch.see(fact);
+        if let Some(event) = fact_of(outputs, refusal) {
+            observer.observe(event);
         }
     }
 }

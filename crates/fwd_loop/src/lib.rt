@@ -1,7 +1,7 @@
 //! The relay over sockets: a loop over its sources and monitors, and its workers, each in a thread
 //! of its own, over TCP. What is proved here is that the code is safe; that its loops end; and that
 //! a run counts each output once and so that it adds up. All other meaning stands in the crates
-//! below: where a request goes and who is told of receipts in `fwd_outlets`.
+//! below: where a request goes and who is told of receipts in `fwd_routing`.
 #![tactic(auto)]
 
 mod acceptor;
@@ -15,14 +15,16 @@ mod reader;
 mod readers;
 mod relay_loop;
 mod run_clock;
+mod runtime;
 mod threads;
 mod turns;
 mod worker_pools;
 mod worker_thread;
 
 pub use fault::StartFault;
-pub use fwd_outlets::{Caller, Fact, Want, Watch};
-pub use fwd_peers::SourceEnd;
+pub use fwd_peers::CloseReason;
+pub use fwd_routing::{JournalEvent, ListenerKind, MemoryFor, Observer};
 pub use relay_loop::Loop;
+pub use runtime::Runtime;
 pub use threads::{Beside, Started};
 pub use turns::{Opened, ReaderTurns, Turns, WorkerTurns, close_all};

@@ -76,7 +76,7 @@ impl Listener {
     }
 
     /// The listener told that connections wait.
-    pub fn called(&mut self) {
+    pub fn notified(&mut self) {
         self.calling = Calling::Now;
     }
 

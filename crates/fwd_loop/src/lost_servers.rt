@@ -1,8 +1,8 @@
 //! Which servers are lost.
 
-use fwd_links::{Notice, Refusal};
-use fwd_outlets::{Fact, Output};
-use fwd_workers::{News, Refused};
+use fwd_links::{Notice, RefusedChunk};
+use fwd_routing::{JournalEvent, Output};
+use fwd_workers::{Refused, WorkerEvent};
 use std::alloc::{AllocError, Global};
 use std::net::SocketAddr;
 
@@ -23,7 +23,7 @@ impl ServerId {
 }
 
 /// What there is to tell of a chunk that a server seems to refuse.
-pub(crate) fn fact_of(outputs: &[Output], refusal: &Refusal) -> Option<Fact> {
+pub(crate) fn fact_of(outputs: &[Output], refusal: &RefusedChunk) -> Option<JournalEvent> {
     let output = refusal.output;
     let Refused {
         server,
@@ -33,7 +33,7 @@ pub(crate) fn fact_of(outputs: &[Output], refusal: &Refusal) -> Option<Fact> {
         why,
     } = refusal.refused;
     let server = ServerId { output, server }.address(outputs)?;
-    Some(Fact::ChunkRefused {
+    Some(JournalEvent::ChunkRefused {
         output,
         server,
         tag,
@@ -61,30 +61,30 @@ impl LostServers {
     }
 
     /// What there is to tell of a worker's notice, if anything.
-    pub fn hear(&mut self, outputs: &[Output], notice: &Notice) -> Option<Fact> {
+    pub fn hear(&mut self, outputs: &[Output], notice: &Notice) -> Option<JournalEvent> {
         let output = notice.output;
         match notice.news {
-            News::Settled { number: _, server } => {
+            WorkerEvent::Settled { number: _, server } => {
                 let id = ServerId { output, server };
                 let place = self.lost.iter().position(|lost| *lost == id)?;
                 self.lost.swap_remove(place);
                 let server = id.address(outputs)?;
-                Some(Fact::ServerBack { output, server })
+                Some(JournalEvent::ServerBack { output, server })
             }
-            News::Went { server } => {
+            WorkerEvent::Went { server } => {
                 let worker = notice.worker;
                 let server = ServerId { output, server }.address(outputs)?;
-                Some(Fact::ServerChanged {
+                Some(JournalEvent::ServerChanged {
                     output,
                     worker,
                     server,
                 })
             }
-            News::Lost { server, why, .. } => {
+            WorkerEvent::Lost { server, why, .. } => {
                 let id = ServerId { output, server };
                 self.note(id);
                 let server = id.address(outputs)?;
-                Some(Fact::ServerLost {
+                Some(JournalEvent::ServerLost {
                     output,
                     server,
                     why,

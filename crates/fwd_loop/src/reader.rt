@@ -8,7 +8,7 @@ use crate::readers::ReaderDesk;
 use crate::run_clock::{RunClock, unix_seconds};
 use fwd_links::{Mailbox, Notices};
 use fwd_match::Routes;
-use fwd_outlets::{Figures, FlushTimer, Outlets, Output, PageParts, SharedTally, Watch};
+use fwd_routing::{Figures, FlushTimer, Observer, Output, PageParts, Router, SharedTally};
 use std::alloc::{AllocError, Global};
 use std::rt::Clock;
 use std::sync::Wait;
@@ -61,7 +61,7 @@ pub(crate) struct Reader<'a, R: Clock> {
     pub tally: &'a SharedTally,
     pub mailbox: &'a Mailbox,
     pub event_loop: &'a mut EventLoop,
-    outlets: Outlets<'a>,
+    router: Router<'a>,
     clock: RunClock<'a, R>,
     /// When it was made, in whole seconds since 1970, if the system's clock could be read.
     started: Option<u64>,
@@ -84,14 +84,14 @@ impl<'a, R: Wait + Clock> Reader<'a, R> {
             start,
         } = around;
         let ReaderParts { event_loop, timers } = parts;
-        let outlets = Outlets::new(rt, alloc, number, routes, outputs, timers)?;
+        let router = Router::new(rt, alloc, number, routes, outputs, timers)?;
         Ok(Reader {
             alloc,
             outputs,
             tally,
             mailbox,
             event_loop,
-            outlets,
+            router,
             clock: RunClock::new(rt, start),
             started: unix_seconds(rt),
         })
@@ -101,12 +101,12 @@ impl<'a, R: Wait + Clock> Reader<'a, R> {
     /// failed.
     pub fn wait(&mut self) -> Result<(), StartFault> {
         let now = self.clock.moment();
-        self.event_loop.wait(self.mailbox, &self.outlets, now)
+        self.event_loop.wait(self.mailbox, &self.router, now)
     }
 
     /// Tells where connections come in, where it has the listeners.
-    pub fn tell<W: Watch>(&self, watch: &mut W) {
-        self.event_loop.tell(watch);
+    pub fn tell<W: Observer>(&self, observer: &mut W) {
+        self.event_loop.tell(observer);
     }
 
     /// How many sources stand.
@@ -143,22 +143,22 @@ impl<'a, R: Wait + Clock> Reader<'a, R> {
     /// Collects receipts of what workers settled, for some milliseconds from a moment on
     /// (milliseconds), tells the sources of those, and writes what is to be sent. Requests that
     /// wait are looked at again where something was settled or answered.
-    pub fn answer<W: Watch>(&mut self, rt: &R, notices: &Notices, watch: &mut W, start: u64) {
-        self.outlets.hear(notices);
+    pub fn answer<W: Observer>(&mut self, rt: &R, notices: &Notices, observer: &mut W, start: u64) {
+        self.router.hear(notices);
         self.event_loop.hear(notices);
-        self.collect(rt, watch, start);
-        self.event_loop.write_all(watch);
-        if self.outlets.has_moved() {
+        self.collect(rt, observer, start);
+        self.event_loop.write_all(observer);
+        if self.router.has_moved() {
             self.event_loop.connections.free_held();
         }
     }
 
     /// Collects receipts for some milliseconds from a moment on; those that are left in a later
     /// turn.
-    fn collect<W: Watch>(&mut self, rt: &R, watch: &mut W, start: u64) {
-        let (event_loop, outlets) = (&mut *self.event_loop, &mut self.outlets);
+    fn collect<W: Observer>(&mut self, rt: &R, observer: &mut W, start: u64) {
+        let (event_loop, router) = (&mut *self.event_loop, &mut self.router);
         for _ in 0..ROUNDS {
-            let is_more = outlets.collect(rt, &mut event_loop.connections, watch);
+            let is_more = router.collect(rt, &mut event_loop.connections, observer);
             if !is_more || self.clock.moment().saturating_sub(start) >= COLLECTING {
                 return;
             }
@@ -166,48 +166,48 @@ impl<'a, R: Wait + Clock> Reader<'a, R> {
     }
 
     /// Reads the connections that are ready, and has what they ask for admitted.
-    pub fn read<W: Watch>(&mut self, rt: &R, watch: &mut W, pages: Pages) {
+    pub fn read<W: Observer>(&mut self, rt: &R, observer: &mut W, pages: Pages) {
         let mut desk = Desk {
             parts: self.parts(),
-            outlets: &mut self.outlets,
+            router: &mut self.router,
             mailbox: self.mailbox,
             are_pages_ordered: pages.are_ordered,
             figures: pages.figures,
             now: 0,
         };
         self.event_loop
-            .read_all(rt, &mut desk, watch, &mut self.clock);
+            .read_all(rt, &mut desk, observer, &mut self.clock);
     }
 
-    /// Flushes what is due at a moment (milliseconds), and rings workers for it; counts what was
+    /// Flushes what is due at a moment (milliseconds), and wakes workers for it; counts what was
     /// admitted; and whoever waits for room and is gone waits no more.
-    pub fn flush<W: Watch>(&mut self, rt: &R, watch: &mut W, now: u64) {
-        self.outlets.flush(rt, now);
-        self.outlets.count(rt, self.tally);
-        self.outlets
-            .tend(rt, &self.event_loop.connections, watch, now);
+    pub fn flush<W: Observer>(&mut self, rt: &R, observer: &mut W, now: u64) {
+        self.router.flush(rt, now);
+        self.router.count(rt, self.tally);
+        self.router
+            .tend(rt, &self.event_loop.connections, observer, now);
     }
 
     /// Whether another reader's sources have their turn at a full output from now on: then all
     /// readers are to be called.
     pub fn passes_on(&self) -> bool {
-        self.outlets.passes_on()
+        self.router.passes_on()
     }
 
     /// Hands in all tickets, writes what that has sources told, and abandons the tickets that are
     /// left. The connections stay.
-    pub fn close<W: Watch>(self, rt: &R, watch: &mut W) {
+    pub fn close<W: Observer>(self, rt: &R, observer: &mut W) {
         let Reader {
             alloc: _,
             outputs: _,
             tally: _,
             mailbox: _,
             event_loop,
-            mut outlets,
+            mut router,
             clock: _,
             started: _,
         } = self;
-        event_loop.finish(rt, &mut outlets, watch);
-        outlets.close(rt);
+        event_loop.finish(rt, &mut router, observer);
+        router.close(rt);
     }
 }

@@ -1,15 +1,15 @@
 //! What the readers of a relay tell each other.
 
 use fwd_links::Mailbox;
-use fwd_outlets::{Fact, SharedTally, Watch};
 use fwd_peers::SourcePeer;
+use fwd_routing::{JournalEvent, Observer, SharedTally};
 use std::alloc::{AllocError, Global};
 use std::mem;
 use std::sync::atomic::{AtomicBool, AtomicUsize, Ordering};
 use std::sync::{Mutex, Wait};
 
-/// The most facts that wait for the first reader. More are left out, and counted.
-const FACTS: usize = 1_024;
+/// The most events that wait for the first reader. More are left out, and counted.
+const JOURNAL_EVENTS: usize = 1_024;
 
 /// Where a reader beside the first is told what workers did, and is handed its sources.
 #[derive(Drop)]
@@ -77,80 +77,82 @@ pub(crate) fn call_all(first: &Mailbox, desks: &[ReaderDesk]) {
     }
 }
 
-/// The facts that wait for the first reader.
+/// The events that wait for the first reader.
 #[derive(Drop)]
 struct Waiting {
     /// In the order in which they were told.
-    facts: Vec<Fact>,
+    journal_events: Vec<JournalEvent>,
     /// How many more there were.
     left_out: u64,
 }
 
-/// What the other readers tell a watch: the first one sees it, and tells it.
+/// What the other readers tell an observer: the first one sees it, and tells it.
 #[derive(Drop)]
-pub(crate) struct FactQueue {
+pub(crate) struct EventQueue {
     waiting: Mutex<Waiting>,
     /// Something waits.
     has_any: AtomicBool,
 }
 
-impl FactQueue {
+impl EventQueue {
     /// Nothing waits.
-    pub fn new(alloc: Global) -> FactQueue {
-        FactQueue {
+    pub fn new(alloc: Global) -> EventQueue {
+        EventQueue {
             waiting: Mutex::new(Waiting {
-                facts: Vec::new(alloc),
+                journal_events: Vec::new(alloc),
                 left_out: 0,
             }),
             has_any: AtomicBool::new(false),
         }
     }
 
-    /// A fact waits. Where memory is refused, or too many wait, it is left out and counted.
-    fn put<R: Wait>(&self, rt: &R, fact: Fact) {
+    /// An event waits. Where memory is refused, or too many wait, it is left out and counted.
+    fn put<R: Wait>(&self, rt: &R, event: JournalEvent) {
         let mut waiting = self.waiting.lock(rt);
-        if waiting.facts.len() >= FACTS || waiting.facts.push(fact).is_err() {
+        if waiting.journal_events.len() >= JOURNAL_EVENTS
+            || waiting.journal_events.push(event).is_err()
+        {
             waiting.left_out = waiting.left_out.saturating_add(1);
         }
         drop(waiting);
         self.has_any.store(true, Ordering::SeqCst);
     }
 
-    /// A watch is told what waits.
-    pub fn tell<R: Wait, W: Watch>(&self, rt: &R, alloc: Global, watch: &mut W) {
+    /// An observer is told what waits.
+    pub fn tell<R: Wait, W: Observer>(&self, rt: &R, alloc: Global, observer: &mut W) {
         if !self.has_any.swap(false, Ordering::SeqCst) {
             return;
         }
         let none = Waiting {
-            facts: Vec::new(alloc),
+            journal_events: Vec::new(alloc),
             left_out: 0,
         };
         let mut guard = self.waiting.lock(rt);
         let waiting = mem::replace(&mut *guard, none);
         drop(guard);
-        for fact in &waiting.facts {
-            watch.see(*fact);
+        for event in &waiting.journal_events {
+            observer.observe(*event);
         }
         if waiting.left_out > 0 {
-            watch.see(Fact::LeftOut(waiting.left_out));
+            observer.observe(JournalEvent::LeftOut(waiting.left_out));
         }
     }
 }
 
-/// The watch of a reader beside the first, which counts its facts and tells them.
+/// The observer of a reader beside the first, which counts its events and tells them.
 #[derive(Drop)]
-pub(crate) struct QueueWatch<'q, 'a, R> {
+pub(crate) struct QueueObserver<'q, 'a, R> {
     pub rt: &'q R,
     pub tally: &'a SharedTally,
-    pub facts: &'a FactQueue,
+    pub journal_events: &'a EventQueue,
     /// The first reader's mailbox.
     pub first: &'a Mailbox,
 }
 
-impl<'q, 'a, R: Wait> Watch for QueueWatch<'q, 'a, R> {
-    fn see(&mut self, fact: Fact) {
-        self.tally.see(self.rt, fact);
-        self.facts.put(self.rt, fact);
+impl<'q, 'a, R: Wait> Observer for QueueObserver<'q, 'a, R> {
+    fn observe(&mut self, event: JournalEvent) {
+        self.tally.observe(self.rt, event);
+        self.journal_events.put(self.rt, event);
         self.first.call();
     }
 }

@@ -4,7 +4,7 @@ ghost use Rattle.std.specs.Prelude.{◌≡◌, ◌≤◌, [], length, map, true,
 ghost use Rattle.fwd_config.specs.Configs.{parts_known};
 ghost use Rattle.fwd_settings.specs.Ranges.{in_range};
 ghost use Rattle.fwd_loop.specs.Pools.{all_made_of, hop_of, shown, shown_by, waits};
-ghost use Rattle.fwd_outlets.specs.Ends.{AddUp};
+ghost use Rattle.fwd_routing.specs.Ends.{AddUp};
 
 use crate::acceptor::{Acceptor, SourceSetup};
 use crate::event_loop::{EventLoop, LoopMemory, MONITORS, SOURCES, WAKER};
@@ -13,7 +13,8 @@ use crate::files::{most_files, sources_within};
 use crate::listener::Listener;
 use crate::random_streams::RandomStreams;
 use crate::reader::ReaderParts;
-use crate::readers::{FactQueue, ReaderDesk};
+use crate::readers::{EventQueue, ReaderDesk};
+use crate::runtime::Runtime;
 use crate::threads::{Beside, Started};
 use crate::turns::{Opened, Own, Shared, Turns, close_all, open};
 use crate::worker_pools::{NextHop, WorkerPools};
@@ -21,16 +22,15 @@ use fwd_chunks::Report;
 use fwd_config::config_of;
 use fwd_core::{Config, OutputConfig};
 use fwd_links::{Mailbox, Signs};
-use fwd_outlets::{Connections, PageDesk, SharedTally, Watch, reports_of};
+use fwd_routing::{Connections, Observer, PageDesk, SharedTally, reports_of};
 use fwd_settings::{OutputSettings, ServerSettings, Settings, WhenFull};
 use mio::{Events, Poll, Waker};
 use std::alloc::{AllocError, Global};
 use std::marker::Model;
-use std::net::{Net, SocketAddr, TcpListener, TcpStream};
+use std::net::{Net, SocketAddr};
 use std::rt::{Clock, Files};
 use std::sync::{Arc, Wait};
 use std::thread;
-use std::thread::Threads;
 
 /// The most bytes that a connection is read in a turn.
 const PIECE: usize = 65_536;
@@ -305,7 +305,7 @@ impl Loop {
             outputs,
             mailbox,
             desks,
-            facts: FactQueue::new(alloc),
+            journal_events: EventQueue::new(alloc),
             tally,
             pages: PageDesk::new(),
         };
@@ -331,31 +331,21 @@ impl Loop {
     ///
     /// It fails with `Thread` where the thread of a reader or worker cannot be had, with `Poll`
     /// where a wait failed, and with `Memory`. All threads that were started have ended then, too.
-    pub fn run<
-        R: Net<Listener = TcpListener, Stream = TcpStream>
-            + Threads
-            + Wait
-            + Clock
-            + AllocGlobal
-            + Sync,
-    >(self, rt: &R, turns: u64) -> Result<Vec<Report>, StartFault>
+    pub fn run<R: Runtime>(self, rt: &R, turns: u64) -> Result<Vec<Report>, StartFault>
         ensures count { IfOk result (λ reports. length reports.items ≡ length self) }
         ensures add_up { IfOk result (λ reports. AddUp reports.items) }
     {
         self.run_watched(rt, &mut (), turns)
     }
 
-    /// The same, and a watch is told what the run comes to.
+    /// The same, and an observer is told what the run comes to.
     #[tactic(auto, using(crate::proofs::Outputs::shown_count))]
-    pub fn run_watched<
-        R: Net<Listener = TcpListener, Stream = TcpStream>
-            + Threads
-            + Wait
-            + Clock
-            + AllocGlobal
-            + Sync,
-        W: Watch,
-    >(self, rt: &R, watch: &mut W, count: u64) -> Result<Vec<Report>, StartFault>
+    pub fn run_watched<R: Runtime, W: Observer>(
+        self,
+        rt: &R,
+        observer: &mut W,
+        count: u64,
+    ) -> Result<Vec<Report>, StartFault>
         ensures count { IfOk result (λ reports. length reports.items ≡ length self) }
         ensures add_up { IfOk result (λ reports. AddUp reports.items) }
     {
@@ -370,11 +360,11 @@ impl Loop {
             workers,
         } = open(rt, alloc, &shared, &mut own)?;
         let served = match Beside::new(alloc, workers, &mut others) {
-            Ok(beside) => serve(rt, &mut turns, beside, watch, count),
+            Ok(beside) => serve(rt, &mut turns, beside, observer, count),
             Err(_) => Err(StartFault::Memory),
         };
         close_all(rt, others);
-        turns.close_watched(rt, watch);
+        turns.close_watched(rt, observer);
         served?;
         Ok(reports_of(rt, alloc, &shared.outputs)?)
     }
@@ -382,19 +372,11 @@ impl Loop {
 
 /// Makes so many turns in this thread, and as many in each thread beside it, until all have ended;
 /// and has monitors' pages made in another one, where there can be one.
-fn serve<
-    R: Net<Listener = TcpListener, Stream = TcpStream>
-        + Threads
-        + Wait
-        + Clock
-        + AllocGlobal
-        + Sync,
-    W: Watch,
->(
+fn serve<R: Runtime, W: Observer>(
     rt: &R,
     turns: &mut Turns<'_, R>,
     beside: Beside<'_, '_, R>,
-    watch: &mut W,
+    observer: &mut W,
     count: u64,
 ) -> Result<(), StartFault> {
     thread::scope(thread::scope_env(), rt, move |scope| {
@@ -409,7 +391,7 @@ fn serve<
             }
         }
         if served.is_ok() {
-            served = turns.run(rt, watch, count);
+            served = turns.run(rt, observer, count);
         }
         if served.is_err() {
             turns.stop();

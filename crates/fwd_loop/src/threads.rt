@@ -1,9 +1,9 @@
 //! The threads of a relay beside its first reader's.
 
 use crate::fault::StartFault;
+use crate::runtime::Runtime;
 use crate::turns::{ReaderTurns, WorkerTurns};
 use std::alloc::{AllocError, Global};
-use std::net::{Net, TcpListener, TcpStream};
 use std::rt::Clock;
 use std::sync::Wait;
 use std::thread::{JoinHandle, Scope, Threads};
@@ -69,17 +69,7 @@ impl Started {
     /// Starts a thread for each of these, which makes so many turns in it.
     ///
     /// It fails with `Thread` where a thread cannot be had. Those that were started work then, too.
-    pub fn start<
-        's,
-        'a,
-        E,
-        R: Net<Listener = TcpListener, Stream = TcpStream>
-            + Threads
-            + Wait
-            + Clock
-            + AllocGlobal
-            + Sync,
-    >(
+    pub fn start<'s, 'a, E, R: Runtime>(
         &mut self,
         scope: &Scope<'s, E>,
         rt: &'s R,

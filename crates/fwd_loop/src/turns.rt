@@ -3,19 +3,20 @@
 //! that becomes free is given again.
 
 ghost use Rattle.std.specs.Prelude.{IfOk};
-ghost use Rattle.fwd_outlets.specs.Ends.{AddUp};
+ghost use Rattle.fwd_routing.specs.Ends.{AddUp};
 
 use crate::event_loop::tell_all;
 use crate::fault::StartFault;
 use crate::lost_servers::LostServers;
 use crate::reader::{Pages, Reader, ReaderParts, Surroundings};
-use crate::readers::{FactQueue, QueueWatch, ReaderDesk, call_all};
+use crate::readers::{EventQueue, QueueObserver, ReaderDesk, call_all};
 use crate::worker_thread::{Mailboxes, WorkerThread};
 use fwd_chunks::Report;
 use fwd_links::Mailbox;
 use fwd_match::Routes;
-use fwd_outlets::{
-    Fact, Output, PageDesk, PageParts, SharedTally, TallyWatch, Want, Watch, reports_of,
+use fwd_routing::{
+    JournalEvent, MemoryFor, Observer, Output, PageDesk, PageParts, SharedTally, TallyObserver,
+    reports_of,
 };
 use std::alloc::{AllocFailed, Global};
 use std::net::Net;
@@ -32,7 +33,7 @@ pub(crate) struct Shared {
     pub mailbox: Mailbox,
     /// The desks of the others.
     pub desks: Vec<ReaderDesk>,
-    pub facts: FactQueue,
+    pub journal_events: EventQueue,
     pub tally: SharedTally,
     pub pages: PageDesk,
 }
@@ -145,7 +146,7 @@ fn others_of<'a, R: Wait + Clock>(
             reader,
             desk,
             desks: &shared.desks,
-            facts: &shared.facts,
+            journal_events: &shared.journal_events,
             first: &shared.mailbox,
             taken: 0,
         };
@@ -173,7 +174,7 @@ pub struct Turns<'a, R: Clock> {
     reader: Reader<'a, R>,
     /// The desks of the other readers.
     desks: &'a [ReaderDesk],
-    facts: &'a FactQueue,
+    journal_events: &'a EventQueue,
     pages: &'a PageDesk,
     /// A thread makes pages: else one is made when it is asked for.
     are_pages_ordered: bool,
@@ -187,7 +188,7 @@ pub struct ReaderTurns<'a, R: Clock> {
     desk: &'a ReaderDesk,
     /// The desks of all readers beside the first.
     desks: &'a [ReaderDesk],
-    facts: &'a FactQueue,
+    journal_events: &'a EventQueue,
     /// The first reader's mailbox.
     first: &'a Mailbox,
     /// How many sources it took.
@@ -236,7 +237,7 @@ pub(crate) fn open<'a, R: Wait + Clock>(
     let turns = Turns {
         reader,
         desks: &shared.desks,
-        facts: &shared.facts,
+        journal_events: &shared.journal_events,
         pages: &shared.pages,
         are_pages_ordered: false,
         lost_servers,
@@ -256,36 +257,36 @@ impl<'a, R: Wait + Clock> ReaderTurns<'a, R> {
     /// It fails with `Poll` where the wait failed.
     pub fn turn(&mut self, rt: &R) -> Result<(), StartFault> {
         let reader = &mut self.reader;
-        let mut watch = QueueWatch {
+        let mut observer = QueueObserver {
             rt,
             tally: reader.tally,
-            facts: self.facts,
+            journal_events: self.journal_events,
             first: self.first,
         };
         reader.wait()?;
         let now = reader.moment();
         let notices = reader.mailbox.take(rt, reader.alloc);
-        reader.answer(rt, &notices, &mut watch, now);
+        reader.answer(rt, &notices, &mut observer, now);
         let pages = Pages {
             are_ordered: false,
             figures: reader.figures(&[], now),
         };
-        reader.read(rt, &mut watch, pages);
+        reader.read(rt, &mut observer, pages);
         for source in self.desk.take(rt, reader.alloc) {
-            reader.event_loop.take_source(source, &mut watch, now);
+            reader.event_loop.take_source(source, &mut observer, now);
             self.taken = self.taken.saturating_add(1);
         }
-        reader.event_loop.close_late(&mut watch, now);
+        reader.event_loop.close_late(&mut observer, now);
         if self.desk.take_want() {
-            reader.event_loop.close_idle(&mut watch, now);
+            reader.event_loop.close_idle(&mut observer, now);
         }
         let now = reader.moment();
-        reader.flush(rt, &mut watch, now);
+        reader.flush(rt, &mut observer, now);
         if self.reader.passes_on() {
             call_all(self.first, self.desks);
         }
-        let standing = self.reader.sources();
-        self.desk.note_gone(self.taken.saturating_sub(standing));
+        let open = self.reader.sources();
+        self.desk.note_gone(self.taken.saturating_sub(open));
         Ok(())
     }
 
@@ -311,17 +312,17 @@ impl<'a, R: Wait + Clock> ReaderTurns<'a, R> {
             reader,
             desk: _,
             desks: _,
-            facts,
+            journal_events,
             first,
             taken: _,
         } = self;
-        let mut watch = QueueWatch {
+        let mut observer = QueueObserver {
             rt,
             tally: reader.tally,
-            facts,
+            journal_events,
             first,
         };
-        reader.close(rt, &mut watch);
+        reader.close(rt, &mut observer);
     }
 }
 
@@ -331,7 +332,7 @@ impl<'a, R: Wait + Clock> Turns<'a, R> {
     /// sources of those, and writes what is to be sent; reads connections that are ready, for some
     /// milliseconds or until workers tell more, a source at most 65,536 bytes, admits its whole
     /// requests, and serves monitors; takes the connections that wait, and closes those that had
-    /// their time and did not show what they are; flushes what is due, and rings workers for it;
+    /// their time and did not show what they are; flushes what is due, and wakes workers for it;
     /// and sends the monitors that wait the page that was made. What is not done yet is done in a
     /// later turn.
     ///
@@ -340,47 +341,51 @@ impl<'a, R: Wait + Clock> Turns<'a, R> {
         self.turn_watched(rt, &mut ())
     }
 
-    /// The same, and a watch is told what the turn comes to.
-    pub fn turn_watched<W: Watch>(&mut self, rt: &R, watch: &mut W) -> Result<(), StartFault> {
-        let mut counted = TallyWatch {
+    /// The same, and an observer is told what the turn comes to.
+    pub fn turn_watched<W: Observer>(
+        &mut self,
+        rt: &R,
+        observer: &mut W,
+    ) -> Result<(), StartFault> {
+        let mut counted = TallyObserver {
             rt,
             tally: self.reader.tally,
-            watch: &mut *watch,
+            observer: &mut *observer,
         };
         self.turn_counted(rt, &mut counted)?;
-        self.facts.tell(rt, self.reader.alloc, watch);
-        watch.turned();
+        self.journal_events.tell(rt, self.reader.alloc, observer);
+        observer.turned();
         Ok(())
     }
 
-    /// The same, but for what the other readers told, and a watch is told that counts.
-    fn turn_counted<W: Watch>(&mut self, rt: &R, watch: &mut W) -> Result<(), StartFault> {
+    /// The same, but for what the other readers told, and an observer is told that counts.
+    fn turn_counted<W: Observer>(&mut self, rt: &R, observer: &mut W) -> Result<(), StartFault> {
         let reader = &mut self.reader;
         reader.wait()?;
         let now = reader.moment();
         let notices = reader.mailbox.take(rt, reader.alloc);
         reader.tally.hear(rt, &notices);
-        tell_all(&notices, reader.outputs, &mut self.lost_servers, watch);
-        reader.answer(rt, &notices, watch, now);
+        tell_all(&notices, reader.outputs, &mut self.lost_servers, observer);
+        reader.answer(rt, &notices, observer, now);
         let pages = Pages {
             are_ordered: self.are_pages_ordered,
             figures: reader.figures(self.desks, now),
         };
-        reader.read(rt, watch, pages);
-        reader.event_loop.accept(rt, self.desks, watch, now);
-        reader.event_loop.close_late(watch, now);
+        reader.read(rt, observer, pages);
+        reader.event_loop.accept(rt, self.desks, observer, now);
+        reader.event_loop.close_late(observer, now);
         let now = reader.moment();
-        reader.flush(rt, watch, now);
+        reader.flush(rt, observer, now);
         if self.reader.passes_on() {
             call_all(self.reader.mailbox, self.desks);
         }
-        self.tend_monitors(rt, watch, now);
+        self.tend_monitors(rt, observer, now);
         Ok(())
     }
 
     /// Monitors that took nothing for long are closed, at a moment (milliseconds); those that wait
     /// for a page that was made are sent it, and a further one is ordered for those that want it.
-    fn tend_monitors<W: Watch>(&mut self, rt: &R, watch: &mut W, now: u64) {
+    fn tend_monitors<W: Observer>(&mut self, rt: &R, observer: &mut W, now: u64) {
         let reader = &mut self.reader;
         let parts = reader.parts();
         let connections = &mut reader.event_loop.connections;
@@ -394,7 +399,7 @@ impl<'a, R: Wait + Clock> Turns<'a, R> {
         if let Some(mut page) = self.pages.take(rt) {
             page.make_here(rt, reader.alloc, parts);
             for _ in 0..connections.hand_page(&page, now) {
-                watch.see(Fact::Memory(Want::Monitor));
+                observer.observe(JournalEvent::Memory(MemoryFor::Monitor));
             }
         }
         let figures = reader.figures(self.desks, now);
@@ -421,17 +426,17 @@ impl<'a, R: Wait + Clock> Turns<'a, R> {
         self.are_pages_ordered = true;
     }
 
-    /// So many turns, of which a watch is told, and first where the relay listens. It ends sooner
-    /// where another reader failed.
-    pub(crate) fn run<W: Watch>(
+    /// So many turns, of which an observer is told, and first where the relay listens. It ends
+    /// sooner where another reader failed.
+    pub(crate) fn run<W: Observer>(
         &mut self,
         rt: &R,
-        watch: &mut W,
+        observer: &mut W,
         turns: u64,
     ) -> Result<(), StartFault> {
-        self.reader.tell(watch);
+        self.reader.tell(observer);
         for _ in 0..turns {
-            self.turn_watched(rt, watch)?;
+            self.turn_watched(rt, observer)?;
             if self.reader.is_stopped() {
                 break;
             }
@@ -459,18 +464,18 @@ impl<'a, R: Wait + Clock> Turns<'a, R> {
         self.close_watched(rt, &mut ());
     }
 
-    /// The same, of which a watch is told, and of what the other readers told.
-    pub(crate) fn close_watched<W: Watch>(self, rt: &R, watch: &mut W) {
+    /// The same, of which an observer is told, and of what the other readers told.
+    pub(crate) fn close_watched<W: Observer>(self, rt: &R, observer: &mut W) {
         let Turns {
             reader,
             desks: _,
-            facts,
+            journal_events,
             pages: _,
             are_pages_ordered: _,
             lost_servers: _,
         } = self;
         let alloc = reader.alloc;
-        reader.close(rt, watch);
-        facts.tell(rt, alloc, watch);
+        reader.close(rt, observer);
+        journal_events.tell(rt, alloc, observer);
     }
 }

@@ -10,7 +10,7 @@ use crate::worker_thread::WorkerThread;
 use fwd_core::{AckTerms, OutputConfig, OutputState};
 use fwd_handshake::Login;
 use fwd_links::WorkerWaker;
-use fwd_outlets::{FlushTimer, Hearers, Line, Output};
+use fwd_routing::{FlushTimer, Hearers, Output, WaitingLine};
 use fwd_workers::{Locked, Plain, SharedOutput, Worker};
 use std::alloc::{AllocError, Global};
 use std::marker::Model;
@@ -121,7 +121,7 @@ impl WorkerPools {
             total: limits.total,
             is_patient,
             hearers: Hearers::new(self.alloc, self.others)?,
-            line: Line::new(self.alloc),
+            line: WaitingLine::new(self.alloc),
         })?;
         self.intervals.push(limits.interval)?;
         Ok(())

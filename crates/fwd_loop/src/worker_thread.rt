@@ -3,9 +3,11 @@
 use crate::fault::StartFault;
 use crate::readers::ReaderDesk;
 use crate::run_clock::RunClock;
-use fwd_links::{Looking, Mailbox, Notice, Refusal, SharedWait, TcpHub, WorkerWait, WorkerWaker};
-use fwd_outlets::Output;
-use fwd_workers::{Gate, News, Pass, Place, Refused, Worker};
+use fwd_links::{
+    Mailbox, Notice, RefusedChunk, SharedWait, TcpHub, WaitMode, WorkerWait, WorkerWaker,
+};
+use fwd_routing::Output;
+use fwd_workers::{Gate, Pass, Place, Refused, Worker, WorkerEvent};
 use std::alloc::Global;
 use std::net::Net;
 use std::rt::Clock;
@@ -17,7 +19,7 @@ use std::time::Instant;
 enum Next {
     /// At once: it had a chunk, and may find another.
     AtOnce,
-    /// It found none when it looked at once, or was rung: soon.
+    /// It found none when it looked at once, or was woken: soon.
     Soon,
     /// It found none for longer.
     Later,
@@ -68,7 +70,7 @@ impl<'a> WorkerGate<'a> {
             return;
         }
         if place == Place::BeforeTake && self.output.is_empty(rt) {
-            self.wait.lock(rt).excuse(signs);
+            self.wait.lock(rt).end_lack(signs);
         } else {
             self.wait.lock(rt).give_back(signs);
         }
@@ -78,26 +80,29 @@ impl<'a> WorkerGate<'a> {
     fn look<R: Wait>(&mut self, rt: &R) {
         let looking = match self.next {
             Next::AtOnce => {
-                self.wait.lock(rt).look();
+                self.wait.lock(rt).look_for_chunk();
                 self.next = Next::Soon;
                 return;
             }
             _ if self.mailbox.is_stopped() => return,
-            Next::Soon => Looking::Soon,
-            Next::Later if self.output.is_empty(rt) => Looking::Idle,
-            Next::Later => Looking::Later,
+            Next::Soon => WaitMode::Soon,
+            Next::Later if self.output.is_empty(rt) => WaitMode::Idle,
+            Next::Later => WaitMode::Later,
         };
-        let was_rung = self.wait.lock(rt).look_later(looking, self.mailbox.signs());
-        self.next = if was_rung { Next::Soon } else { Next::Later };
+        let was_woken = self
+            .wait
+            .lock(rt)
+            .wait_for_chunk(looking, self.mailbox.signs());
+        self.next = if was_woken { Next::Soon } else { Next::Later };
     }
 
-    /// The worker has a chunk. Where it was rung meanwhile another worker is: the ring may be for
+    /// The worker has a chunk. Where it was woken meanwhile another worker is: the wake may be for
     /// another chunk.
     fn work<R: Wait>(&mut self, rt: &R) {
         self.next = Next::AtOnce;
-        let was_rung = self.wait.lock(rt).work();
-        if was_rung {
-            self.output.ring(1);
+        let was_woken = self.wait.lock(rt).work();
+        if was_woken {
+            self.output.wake(1);
         }
     }
 }
@@ -112,14 +117,14 @@ impl<'a> Gate for WorkerGate<'a> {
         }
     }
 
-    fn hear<R: Wait>(&mut self, rt: &R, worker: u16, news: News) {
+    fn hear<R: Wait>(&mut self, rt: &R, worker: u16, news: WorkerEvent) {
         let notice = Notice {
             output: self.number,
             worker,
             news,
         };
         self.mailbox.tell(rt, notice);
-        if let News::Settled { .. } = news {
+        if let WorkerEvent::Settled { .. } = news {
             for (reader, desk) in (1..usize::MAX).zip(self.others) {
                 if self.output.hearers.hears(reader) {
                     desk.mailbox.tell(rt, notice);
@@ -130,7 +135,8 @@ impl<'a> Gate for WorkerGate<'a> {
 
     fn hear_refused<R: Wait>(&mut self, rt: &R, _worker: u16, refused: Refused) {
         let output = self.number;
-        self.mailbox.tell_refused(rt, Refusal { output, refused });
+        self.mailbox
+            .tell_refused(rt, RefusedChunk { output, refused });
     }
 }
 
@@ -143,7 +149,7 @@ pub(crate) struct WorkerThread {
 }
 
 impl WorkerThread {
-    /// A worker of the output of this number, and what rings it.
+    /// A worker of the output of this number, and what wakes it.
     pub fn new<R: Net>(
         rt: &R,
         alloc: Global,
@@ -186,6 +192,6 @@ impl WorkerThread {
         let mut clock = RunClock::new(rt, start);
         self.wait.lock(rt).refill(mailbox.signs());
         self.worker.run(rt, &own.shared, (), &mut hub, &mut gate, &mut clock, turns);
-        self.wait.lock(rt).excuse(mailbox.signs());
+        self.wait.lock(rt).end_lack(mailbox.signs());
     }
 }

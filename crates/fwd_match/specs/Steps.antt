@@ -3,16 +3,16 @@ use Rattle.std.specs.Prelude.{◌≡◌, ℕ, ◌+◌, true, false, List, [], �
 use Rattle.std.specs.Option.{option_copied}
 use Rattle.fwd_match.specs.Patterns.{matches, some_suffix, is_dot}
 use Rattle.fwd_match.specs.Marks.{fields_left}
-use Rattle.fwd_match.specs.declared.matching.Place.{Place}
+use Rattle.fwd_match.specs.declared.matching.Remainder.{Remainder}
 use Rattle.fwd_match.specs.declared.matching.Step.{Step}
 use Rattle.fwd_match.specs.declared.matching.Step.TheVariants.{Ends, Fits, Stars, Differs}
 
 -- the parts that are left of the word
-abbrev pub word_left : Place → List (List ℕ)
+abbrev pub word_left : Remainder → List (List ℕ)
 word_left at = fields_left is_dot (option_copied at.word)
 
 -- the parts that are left of the tag
-abbrev pub tag_left : Place → List (List ℕ)
+abbrev pub tag_left : Remainder → List (List ℕ)
 tag_left at = fields_left is_dot (option_copied at.tag)
 
 -- one part is taken from both, and the word behind it is
@@ -32,14 +32,14 @@ pub record TakesStars (word tag word' tag' : List (List ℕ)) : Type 0 where
 
 -- a step says the truth of a place: it matches, or differs,
 -- or one part or a `**` is taken to come to the next place
-abbrev pub IsStep : Place → Step → Type 0
+abbrev pub IsStep : Remainder → Step → Type 0
 IsStep at Ends = matches (word_left at) (tag_left at) ≡ true
 IsStep at (Fits next) = TakesOne (word_left at) (tag_left at) (word_left next) (tag_left next)
 IsStep at (Stars next) = TakesStars (word_left at) (tag_left at) (word_left next) (tag_left next)
 IsStep at Differs = matches (word_left at) (tag_left at) ≡ false
 
 -- one part is taken from the tag
-abbrev pub IsLater : Place → Option Place → Type 0
+abbrev pub IsLater : Remainder → Option Remainder → Type 0
 IsLater at None = tag_left at ≡ []
 IsLater at (Some next) =
     (part : List ℕ)

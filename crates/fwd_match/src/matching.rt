@@ -8,7 +8,7 @@ use crate::fields::{Mark, first_field};
 
 /// What is left of a word and of a tag: no part, or the bytes of the parts that are left.
 #[derive(Clone, Copy)]
-struct Place<'a> {
+struct Remainder<'a> {
     word: Option<&'a [u8]>,
     tag: Option<&'a [u8]>,
 }
@@ -19,9 +19,9 @@ enum Step<'a> {
     /// Both are at their ends.
     Ends,
     /// One part fits, and this is the place behind it.
-    Fits(Place<'a>),
+    Fits(Remainder<'a>),
     /// `**`, and this is the place if it takes no part.
-    Stars(Place<'a>),
+    Stars(Remainder<'a>),
     /// No match from here.
     Differs,
 }
@@ -39,7 +39,7 @@ fn fits(wanted: &[u8], part: &[u8]) -> bool
 }
 
 /// The one comparison that is made at a place.
-fn next_step<'a>(at: Place<'a>) -> Step<'a>
+fn next_step<'a>(at: Remainder<'a>) -> Step<'a>
     ensures { IsStep at.entry result }
 {
     let Some(word) = at.word else {
@@ -51,28 +51,28 @@ fn next_step<'a>(at: Place<'a>) -> Step<'a>
     };
     let (wanted, word) = first_field(word, Mark::Dot);
     if is_stars(wanted) {
-        return Step::Stars(Place { word, tag: at.tag });
+        return Step::Stars(Remainder { word, tag: at.tag });
     }
     let Some(tag) = at.tag else {
         return Step::Differs;
     };
     let (part, tag) = first_field(tag, Mark::Dot);
     if fits(wanted, part) {
-        Step::Fits(Place { word, tag })
+        Step::Fits(Remainder { word, tag })
     } else {
         Step::Differs
     }
 }
 
 /// The place one part further in the tag, if there is a part.
-fn one_later<'a>(at: Place<'a>) -> Option<Place<'a>>
+fn one_later<'a>(at: Remainder<'a>) -> Option<Remainder<'a>>
     ensures { IsLater at.entry result }
 {
     match at.tag {
         None => None,
         Some(tag) => {
             let (_, tag) = first_field(tag, Mark::Dot);
-            Some(Place { word: at.word, tag })
+            Some(Remainder { word: at.word, tag })
         }
     }
 }
@@ -84,7 +84,7 @@ fn one_later<'a>(at: Place<'a>) -> Option<Place<'a>>
 pub fn word_matches(word: &[u8], tag: &[u8]) -> bool
     ensures { result ≡ patterns.matches (patterns.parts word.now) (patterns.parts tag.now) }
 {
-    let mut at = Place {
+    let mut at = Remainder {
         word: Some(word),
         tag: Some(tag),
     };

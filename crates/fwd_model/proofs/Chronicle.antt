@@ -13,7 +13,7 @@ use Rattle.fwd_modes.specs.Requests.{Request}
 use Rattle.fwd_modes.specs.declared.origin.Origin.{Origin}
 use Rattle.fwd_modes.specs.Frames.{chunk_frame, chunk_name}
 use Rattle.fwd_chunks.specs.Cells.{Cell, cells_at, contents, entries_of, first_tag, has_number}
-use Rattle.fwd_chunks.specs.History.{BufferHistory, Load, load_of}
+use Rattle.fwd_chunks.specs.History.{BufferHistory, CarriedChunk, carried_chunk_of}
 use Rattle.fwd_chunks.proofs.CellLemmas.{has_cell}
 use Rattle.fwd_chunks.proofs.News.{AreOf}
 use Rattle.fwd_book.specs.History.{Entered, Admission, Fate, becomes}
@@ -24,7 +24,7 @@ use Rattle.fwd_match.specs.Patterns.{route}
 use Rattle.fwd_source.specs.History.{SourceHistory, judged}
 use Rattle.fwd_model.specs.declared.answer.Answer.TheVariants as answer
 use Rattle.fwd_model.specs.declared.event.EndKind.{EndKind}
-use Rattle.fwd_session.specs.Evidence.{Accepted, frame_of}
+use Rattle.fwd_session.specs.ServerAcks.{Accepted, frame_of}
 use Rattle.fwd_session.specs.History.{Loaded, SessionHistory, IsFramed}
 use Rattle.fwd_session.proofs.Lists.{all_same}
 use Rattle.fwd_model.specs.Outcome.{state_of}
@@ -171,7 +171,7 @@ IsNamed config o b = (b.setting.run ≡ config.run) × (b.setting.output ≡ o)
 
 -- that is the frame of the chunk
 pub frame_is : (config : Config) (o k : ℕ) (b : BufferHistory) → IsNamed config o b
-    → frame_of (load_of b k) ≡ frame_at config o b.cells k
+    → frame_of (carried_chunk_of b k) ≡ frame_at config o b.cells k
 frame_is config o k b named = λ i. chunk_frame (first_tag (cells_at k b.cells)) (contents k b.cells) (chunk_name (named.0 i) (named.1 i) k)
 
 -- a chunk's frame stands behind this front of what was appended, and its last byte is where the

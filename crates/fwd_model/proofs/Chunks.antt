@@ -4,7 +4,7 @@ use Rattle.std.specs.Prelude.{map, filter, find, not, nat_lt, ◌||◌, ◌==◌
 use Rattle.std.specs.List.{AllByRecursion}
 use Rattle.std.proofs.lemmas.Bool.Decides.{nat_tests}
 use Rattle.fwd_chunks.specs.Cells.{has_number}
-use Rattle.fwd_chunks.specs.History.{Load}
+use Rattle.fwd_chunks.specs.History.{CarriedChunk}
 use Rattle.fwd_session.proofs.Lists.{find_passes}
 use Rattle.fwd_model.specs.Outputs.{has_chunk, not_loaded}
 use Rattle.fwd_model.proofs.Lists.{slice_get-append}
@@ -12,17 +12,17 @@ use Rattle.fwd_model.proofs.Lists.{slice_get-append}
 -- ---- one of them
 
 -- the chunk is one of these
-pub record IsAmong (c : Load) (cs : List Load) : Type 0 where
+pub record IsAmong (c : CarriedChunk) (cs : List CarriedChunk) : Type 0 where
   pub place : ℕ
   pub here : slice_get cs place ≡ Some c
 
-pub among-later : (c d : Load) (cs : List Load) → IsAmong c cs → IsAmong c (d ∷ cs)
+pub among-later : (c d : CarriedChunk) (cs : List CarriedChunk) → IsAmong c cs → IsAmong c (d ∷ cs)
 among-later c d cs one = record { place = suc one.place; here = one.here }
 
-pub among-append : (c : Load) (cs ds : List Load) → IsAmong c cs → IsAmong c (cs ++ ds)
+pub among-append : (c : CarriedChunk) (cs ds : List CarriedChunk) → IsAmong c cs → IsAmong c (cs ++ ds)
 among-append c cs ds one = record { place = one.place; here = slice_get-append cs ds one.place c one.here }
 
-pub among-found : (test : Load → Bool) (cs : List Load) (c : Load) → find test cs ≡ Some c
+pub among-found : (test : CarriedChunk → Bool) (cs : List CarriedChunk) (c : CarriedChunk) → find test cs ≡ Some c
     → IsAmong c cs
 among-found test [] c e = absurd cc
 among-found test (d ∷ cs) c e = by (test d) e (λ f. among-found test cs c f)
@@ -32,70 +32,70 @@ among-found test (d ∷ cs) c e = by (test d) e (λ f. among-found test cs c f)
     by true e rest = record { place = 0; here = e }
     by false e rest = among-later c d cs (rest e)
 
-pub among-has : (c : Load) (cs : List Load) → IsAmong c cs → has_chunk c.number cs ≡ true
+pub among-has : (c : CarriedChunk) (cs : List CarriedChunk) → IsAmong c cs → has_chunk c.number cs ≡ true
 among-has c cs one = at cs one.place one.here
   where
-    at : (cs : List Load) (i : ℕ) → slice_get cs i ≡ Some c → has_chunk c.number cs ≡ true
+    at : (cs : List CarriedChunk) (i : ℕ) → slice_get cs i ≡ Some c → has_chunk c.number cs ≡ true
     at [] i h = absurd cc
-    at (d ∷ cs) zero h = let same : d ≡ c = cc in let number : d.number ≡ c.number = ap (λ (y : Load). y.number) same in grind (arith, nat_tests, number)
+    at (d ∷ cs) zero h = let same : d ≡ c = cc in let number : d.number ≡ c.number = ap (λ (y : CarriedChunk). y.number) same in grind (arith, nat_tests, number)
     at (d ∷ cs) (suc i) h = grind (arith, nat_tests, at cs i h)
 
 -- ---- all but a number
 
-abbrev pub others : ℕ → List Load → List Load
+abbrev pub others : ℕ → List CarriedChunk → List CarriedChunk
 others k cs = filter (λ c. not (c.number == k)) cs
 
-pub among-others : (k : ℕ) (c : Load) (cs : List Load) → (c.number == k) ≡ false → IsAmong c cs
+pub among-others : (k : ℕ) (c : CarriedChunk) (cs : List CarriedChunk) → (c.number == k) ≡ false → IsAmong c cs
     → IsAmong c (others k cs)
 among-others k c cs other one = at cs one.place one.here
   where
-    first : (d : Load) (cs : List Load) (b : Bool) → b ≡ false → d ≡ c
+    first : (d : CarriedChunk) (cs : List CarriedChunk) (b : Bool) → b ≡ false → d ≡ c
         → IsAmong c (cond (not b) (d ∷ others k cs) (others k cs))
     first d cs true e same = absurd cc
     first d cs false e same = record { place = 0; here = ap Some same }
 
-    later : (d : Load) (cs : List Load) (b : Bool) → IsAmong c (others k cs)
+    later : (d : CarriedChunk) (cs : List CarriedChunk) (b : Bool) → IsAmong c (others k cs)
         → IsAmong c (cond (not b) (d ∷ others k cs) (others k cs))
     later d cs true one = one
     later d cs false one = among-later c d (others k cs) one
 
-    at : (cs : List Load) (i : ℕ) → slice_get cs i ≡ Some c → IsAmong c (others k cs)
+    at : (cs : List CarriedChunk) (i : ℕ) → slice_get cs i ≡ Some c → IsAmong c (others k cs)
     at [] i h = absurd cc
-    at (d ∷ cs) zero h = let same : d ≡ c = cc in first d cs (d.number == k) (ap (λ (y : Load). y.number == k) same ∙ other) same
+    at (d ∷ cs) zero h = let same : d ≡ c = cc in first d cs (d.number == k) (ap (λ (y : CarriedChunk). y.number == k) same ∙ other) same
     at (d ∷ cs) (suc i) h = later d cs (d.number == k) (at cs i h)
 
-pub others-none : (k : ℕ) (cs : List Load) → has_chunk k cs ≡ false → others k cs ≡ cs
+pub others-none : (k : ℕ) (cs : List CarriedChunk) → has_chunk k cs ≡ false → others k cs ≡ cs
 others-none k [] h = refl
 others-none k (c ∷ cs) h = grind (arith, nat_tests, others-none k cs)
 
 -- ---- how often a number stands
 
-abbrev pub times : ℕ → List Load → ℕ
+abbrev pub times : ℕ → List CarriedChunk → ℕ
 times k [] = 0
 times k (c ∷ cs) = cond (c.number == k) (suc (times k cs)) (times k cs)
 
-pub times-append : (k : ℕ) (cs ds : List Load) → times k (cs ++ ds) ≡ times k cs + times k ds
+pub times-append : (k : ℕ) (cs ds : List CarriedChunk) → times k (cs ++ ds) ≡ times k cs + times k ds
 times-append k [] ds = omega arith
 times-append k (c ∷ cs) ds = grind (arith, nat_tests, times-append k cs ds)
 
-pub has-times : (k : ℕ) (cs : List Load) → has_chunk k cs ≡ nat_lt 0 (times k cs)
+pub has-times : (k : ℕ) (cs : List CarriedChunk) → has_chunk k cs ≡ nat_lt 0 (times k cs)
 has-times k [] = grind (arith, nat_tests)
 has-times k (c ∷ cs) = grind (arith, nat_tests, has-times k cs)
 
 -- ---- the one that is not loaded
 
-abbrev pub missing : (loaded : List Load) → List Load → List Load
+abbrev pub missing : (loaded : List CarriedChunk) → List CarriedChunk → List CarriedChunk
 missing loaded cs = filter (λ c. not (has_chunk c.number loaded)) cs
 
-pub same_has : (hs gs : List Load) → ((k : ℕ) → times k gs ≡ times k hs) → (k : ℕ)
+pub same_has : (hs gs : List CarriedChunk) → ((k : ℕ) → times k gs ≡ times k hs) → (k : ℕ)
     → has_chunk k gs ≡ has_chunk k hs
 same_has hs gs same k = has-times k gs ∙ ap (nat_lt 0) (same k) ∙ sym (has-times k hs)
 
-pub same_missing : (hs gs cs : List Load) → ((k : ℕ) → times k gs ≡ times k hs)
+pub same_missing : (hs gs cs : List CarriedChunk) → ((k : ℕ) → times k gs ≡ times k hs)
     → missing gs cs ≡ missing hs cs
 same_missing hs gs cs same = λ i. filter (λ c. not (same_has hs gs same c.number i)) cs
 
-pub same_not_loaded : (hs gs cs : List Load) → ((k : ℕ) → times k gs ≡ times k hs)
+pub same_not_loaded : (hs gs cs : List CarriedChunk) → ((k : ℕ) → times k gs ≡ times k hs)
     → not_loaded gs cs ≡ not_loaded hs cs
 same_not_loaded hs gs cs same = λ i. find (λ c. not (same_has hs gs same c.number i)) cs
 
@@ -173,7 +173,7 @@ some_pass {X} t (x ∷ xs) c e = by (t x) e (λ f. some_pass t xs c f)
     by false e rest = rest e
 
 -- the chunks of a number and the others are all
-pub length-others : (k : ℕ) (cs : List Load) → length (others k cs) + times k cs ≡ length cs
+pub length-others : (k : ℕ) (cs : List CarriedChunk) → length (others k cs) + times k cs ≡ length cs
 length-others k [] = omega arith
 length-others k (c ∷ cs) = by (c.number == k) (length-others k cs)
   where
@@ -185,8 +185,8 @@ length-others k (c ∷ cs) = by (c.number == k) (length-others k cs)
 
 -- ---- a chunk is loaded
 
-module _ (hs gs cs : List Load) (c : Load) (more : (k : ℕ) → times k gs ≡ times k (c ∷ hs)) where
-  narrower : (d : Load) → not (has_chunk d.number hs) ≡ false → not (has_chunk d.number gs) ≡ false
+module _ (hs gs cs : List CarriedChunk) (c : CarriedChunk) (more : (k : ℕ) → times k gs ≡ times k (c ∷ hs)) where
+  narrower : (d : CarriedChunk) → not (has_chunk d.number hs) ≡ false → not (has_chunk d.number gs) ≡ false
   narrower d e = grind (arith, nat_tests, has-times d.number hs, has-times d.number gs, more d.number)
 
   not_here : not (has_chunk c.number gs) ≡ false
@@ -211,7 +211,7 @@ module _ (hs gs cs : List Load) (c : Load) (more : (k : ℕ) → times k gs ≡ 
 
 -- ---- a chunk is settled
 
-module _ (hs gs cs : List Load) (c : Load) (less : (k : ℕ) → times k hs ≡ times k (c ∷ gs)) (once : (k : ℕ) → times k hs ≤ 1) where
+module _ (hs gs cs : List CarriedChunk) (c : CarriedChunk) (less : (k : ℕ) → times k hs ≡ times k (c ∷ gs)) (once : (k : ℕ) → times k hs ≤ 1) where
   gone : times c.number gs ≡ 0
   gone =
       let here : eqb c.number c.number ≡ true = grind (arith, nat_tests) in
@@ -225,7 +225,7 @@ module _ (hs gs cs : List Load) (c : Load) (less : (k : ℕ) → times k hs ≡ 
       by false e = omega (arith, once k, e)
 
   -- of the others, those that are missing are the same
-  tests_same : (d : Load) → (d.number == c.number) ≡ false
+  tests_same : (d : CarriedChunk) → (d.number == c.number) ≡ false
       → has_chunk d.number gs ≡ has_chunk d.number hs
   tests_same d other =
       let turned : (c.number == d.number) ≡ false = grind (arith, nat_tests, other) in
@@ -238,7 +238,7 @@ module _ (hs gs cs : List Load) (c : Load) (less : (k : ℕ) → times k hs ≡ 
       × (not_loaded gs (others c.number cs) ≡ not_loaded hs cs)
   settles_rest = at cs
     where
-      at : (cs : List Load) → (missing gs (others c.number cs) ≡ missing hs cs)
+      at : (cs : List CarriedChunk) → (missing gs (others c.number cs) ≡ missing hs cs)
           × (not_loaded gs (others c.number cs) ≡ not_loaded hs cs)
       at [] = (refl, refl)
       at (d ∷ ds) = by (d.number == c.number) refl (at ds)
@@ -274,7 +274,7 @@ module _ (hs gs cs : List Load) (c : Load) (less : (k : ℕ) → times k hs ≡ 
       → AllByRecursion (λ d. IsAmong d (others c.number cs)) gs
   settles_his all = at gs gone all
     where
-      at : (ds : List Load) → times c.number ds ≡ 0 → AllByRecursion (λ d. IsAmong d cs) ds
+      at : (ds : List CarriedChunk) → times c.number ds ≡ 0 → AllByRecursion (λ d. IsAmong d cs) ds
           → AllByRecursion (λ d. IsAmong d (others c.number cs)) ds
       at [] e all = tt
       at (d ∷ ds) e all = by (d.number == c.number) refl e (λ f. at ds f all.1)
@@ -289,31 +289,31 @@ module _ (hs gs cs : List Load) (c : Load) (less : (k : ℕ) → times k hs ≡ 
 -- ---- chunks are given back
 
 -- all but some numbers
-abbrev pub others_all : List ℕ → List Load → List Load
+abbrev pub others_all : List ℕ → List CarriedChunk → List CarriedChunk
 others_all [] cs = cs
 others_all (k ∷ ks) cs = others_all ks (others k cs)
 
 -- they are those that have none of the numbers
-pub others_all-filter : (ks : List ℕ) (cs : List Load)
+pub others_all-filter : (ks : List ℕ) (cs : List CarriedChunk)
     → others_all ks cs ≡ filter (λ c. not (has_number c.number ks)) cs
 others_all-filter [] cs = sym (all_pass cs)
   where
-    all_pass : (cs : List Load) → filter (λ c. not false) cs ≡ cs
+    all_pass : (cs : List CarriedChunk) → filter (λ c. not false) cs ≡ cs
     all_pass [] = refl
     all_pass (c ∷ cs) = ap (λ ds. c ∷ ds) (all_pass cs)
 others_all-filter (k ∷ ks) cs = others_all-filter ks (others k cs) ∙ twice cs
   where
-    twice : (cs : List Load)
+    twice : (cs : List CarriedChunk)
         → filter (λ c. not (has_number c.number ks)) (others k cs)
         ≡ filter (λ c. not (has_number c.number (k ∷ ks))) cs
     twice [] = refl
     twice (c ∷ cs) = grind (arith, nat_tests, twice cs)
 
 -- the numbers of chunks
-abbrev pub numbers_in : List Load → List ℕ
+abbrev pub numbers_in : List CarriedChunk → List ℕ
 numbers_in cs = map (λ c. c.number) cs
 
-pub has_in : (k : ℕ) (cs : List Load) → has_number k (numbers_in cs) ≡ has_chunk k cs
+pub has_in : (k : ℕ) (cs : List CarriedChunk) → has_number k (numbers_in cs) ≡ has_chunk k cs
 has_in k [] = refl
 has_in k (c ∷ cs) = ap (λ b. (c.number == k) || b) (has_in k cs)
 
@@ -322,7 +322,7 @@ abbrev pub AreOnce : List ℕ → Type 0
 AreOnce [] = Unit {0}
 AreOnce (k ∷ ks) = (has_number k ks ≡ false) × AreOnce ks
 
-pub once_in : (cs : List Load) → ((k : ℕ) → times k cs ≤ 1) → AreOnce (numbers_in cs)
+pub once_in : (cs : List CarriedChunk) → ((k : ℕ) → times k cs ≤ 1) → AreOnce (numbers_in cs)
 once_in [] once = tt
 once_in (c ∷ cs) once = (has_in c.number cs ∙ none, once_in cs (λ k. less k (eqb c.number k) (once k)))
   where
@@ -338,11 +338,11 @@ once_in (c ∷ cs) once = (has_in c.number cs ∙ none, once_in cs (λ k. less k
     less k false h = h
 
 -- a worker without its chunk that is not loaded and without its session's has nothing
-pub all_gone : (hs cs : List Load) → length (missing hs cs) ≤ 1
+pub all_gone : (hs cs : List CarriedChunk) → length (missing hs cs) ≤ 1
     → others_all (numbers_in (option_to_list (not_loaded hs cs) ++ hs)) cs ≡ []
 all_gone hs cs few = by (not_loaded hs cs) refl
   where
-    by : (o : Option Load) → not_loaded hs cs ≡ o → others_all (numbers_in (option_to_list o ++ hs)) cs ≡ []
+    by : (o : Option CarriedChunk) → not_loaded hs cs ≡ o → others_all (numbers_in (option_to_list o ++ hs)) cs ≡ []
     by None e =
         others_all-filter (numbers_in hs) cs
         ∙ (λ i. filter (λ c. not (has_in c.number hs i)) cs)

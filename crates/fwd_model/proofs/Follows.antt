@@ -24,7 +24,7 @@ use Rattle.fwd_source.proofs.Following.{heard, hears-live, hears-sane, gives-liv
 use Rattle.fwd_chunks.specs.declared.fault.AdmitError.{AdmitError}
 use Rattle.fwd_chunks.specs.declared.fault.AdmitError.TheVariants.{Full, NumbersSpent, Memory}
 use Rattle.fwd_chunks.specs.declared.flush.FlushKind.{FlushKind}
-use Rattle.fwd_chunks.specs.History.{BufferHistory, Load, counts as buffer_counts}
+use Rattle.fwd_chunks.specs.History.{BufferHistory, CarriedChunk, counts as buffer_counts}
 use Rattle.fwd_chunks.specs.Live.{live_counts}
 use Rattle.fwd_chunks.proofs.Follows as buffer
 use Rattle.fwd_chunks.specs.TagCounts.{report, live_report}
@@ -40,7 +40,7 @@ use Rattle.fwd_model.specs.declared.event.EndKind.{EndKind}
 use Rattle.fwd_model.specs.declared.fault.Refusal.TheVariants.{NotNow, NotUp}
 use Rattle.fwd_session.specs.declared.told.SessionHeard.{SessionHeard}
 use Rattle.fwd_session.specs.declared.told.SessionHeard.TheVariants as heard_as
-use Rattle.fwd_session.specs.Evidence.{Accepted, evidence_of}
+use Rattle.fwd_session.specs.ServerAcks.{Accepted, evidence_of}
 use Rattle.fwd_session.specs.History.{Loaded, SessionHistory, IsSane as IsSaneHistory, begins, chunks_of, first_in, handshake_of, is_free_for, loads, hears as hears_bytes, piece_told, piece_out}
 use Rattle.fwd_session.specs.Live.{LiveSession, live_loaded, live_session, live_chunks, session_hears}
 use Rattle.fwd_session.proofs.Following.{begins-live, begins-sane, loads-live, sends-live, sends-sane, told-live, out-live, hears-live as hears_bytes-live, hears-sane as hears_bytes-sane, late-live, ready-live, room-live, unloads-live, looks-live, looks-sane}
@@ -351,7 +351,7 @@ or_right : (a b : Bool) → (a || b) ≡ false → b ≡ false
 or_right true b e = absurd cc
 or_right false b e = e
 
-no_chunk : (c : Option Load) → is_some c ≡ false → c ≡ None
+no_chunk : (c : Option CarriedChunk) → is_some c ≡ false → c ≡ None
 no_chunk None e = refl
 no_chunk (Some c) e = absurd cc
 
@@ -383,15 +383,15 @@ load : (now : ℕ) (l : Lane) (w : ℕ) (x : Worker SessionHistory)
     (steps.load lives now (worker_map live_session x))
 load now l w x own e =
     sought {g = live_session} _ _ refl (λ s f.
-    sought {g = λ (c : Load). c} _ _ (option_id x.taken) (λ c g.
+    sought {g = λ (c : CarriedChunk). c} _ _ (option_id x.taken) (λ c g.
     checked NotNow (ap (λ n. n == 0) (sym (room-live s))) (λ some.
     checked NotUp (ap not (sym (ready-live s))) (λ up.
     goes refl (leads s c f (session_here l w x s e f) g (and_left s.down (is_free_for (handshake_of s) s.has_loaded) up))))))
   where
-    cs : List Load
+    cs : List CarriedChunk
     cs = carried_by l.output.buffer w
 
-    leads : (s : SessionHistory) (c : Load) → x.session ≡ Some s
+    leads : (s : SessionHistory) (c : CarriedChunk) → x.session ≡ Some s
         → slice_get l.sessions w ≡ Some (Some s) → x.taken ≡ Some c → s.down ≡ false
         → Leads (worker_map live_session) (SaneWorker l w) (with_loaded (loads s c now))
         (with_loaded (lives.loads (live_session s) c now))
@@ -418,13 +418,13 @@ wrote_sane s count own few = by s.down refl
         record { started = own.started; sent = omega (arith, zero, own.sent); opened = own.opened; greets = own.greets }
     by false e = sends-sane s count own e (le_from (length (histories.to_send s)) count few)
 
-wrote : (n : ℕ) (cs : List Load) (count : ℕ) (s : SessionHistory) → IsSaneWorker n cs (Some s)
+wrote : (n : ℕ) (cs : List CarriedChunk) (count : ℕ) (s : SessionHistory) → IsSaneWorker n cs (Some s)
     → Agrees live_session (λ t. StaysSane n cs (Some s) (Some t)) (steps.wrote histories count s)
     (steps.wrote lives count (live_session s))
 unfolding live_session
 wrote n cs count s fits = checked NotNow refl (λ few. goes refl (sends-live s count, same_chunks n cs (Some s) (histories.sends s count) fits (wrote_sane s count (fits.own s refl) few) (fits.window s refl) fits.his (λ k. refl) refl))
 
-heard-agrees : (n : ℕ) (cs : List Load) (s : SessionHistory) (told : SessionHeard) (out : List ℕ)
+heard-agrees : (n : ℕ) (cs : List CarriedChunk) (s : SessionHistory) (told : SessionHeard) (out : List ℕ)
     (t : SessionHistory) (u : LiveSession)
     → Leads live_session (λ t. StaysSane n cs (Some s) (Some t)) t u
     → Agrees live_session (λ t. StaysSane n cs (Some s) (Some t)) (of_heard told out t) (of_heard told out u)
@@ -434,7 +434,7 @@ heard-agrees n cs s heard_as.Ready out t u leads = goes refl leads
 heard-agrees n cs s heard_as.Acked out t u leads = goes refl leads
 heard-agrees n cs s (heard_as.Fault why) out t u leads = goes refl leads
 
-hear : (bytes : List ℕ) (n : ℕ) (cs : List Load) (s : SessionHistory) → IsSaneWorker n cs (Some s)
+hear : (bytes : List ℕ) (n : ℕ) (cs : List CarriedChunk) (s : SessionHistory) → IsSaneWorker n cs (Some s)
     → Agrees live_session (λ t. StaysSane n cs (Some s) (Some t)) (steps.heard histories bytes s)
     (steps.heard lives bytes (live_session s))
 hear bytes n cs s fits =
@@ -445,7 +445,7 @@ hear bytes n cs s fits =
     (λ i. of_heard (told-live s bytes own i) (out-live s bytes own i) (session_hears (live_session s) bytes))
     (heard-agrees n cs s (piece_told s bytes) (piece_out s bytes) (hears_bytes s bytes) (session_hears (live_session s) bytes) leads)
 
-late : (now n : ℕ) (cs : List Load) (s : SessionHistory) → IsSaneWorker n cs (Some s)
+late : (now n : ℕ) (cs : List CarriedChunk) (s : SessionHistory) → IsSaneWorker n cs (Some s)
     → Agrees live_session (λ t. StaysSane n cs (Some s) (Some t)) (steps.late histories now s)
     (steps.late lives now (live_session s))
 late now n cs s fits =
@@ -501,7 +501,7 @@ lost_same : (kind : EndKind) (s : Option SessionHistory)
     → steps.lost_server histories kind s ≡ steps.lost_server lives kind (option_map live_session s)
 unfolding live_session
 lost_same kind None = refl
-lost_same kind (Some s) = ap (λ (cs : List Load). cond (steps.is_lost kind || (s.down || (not (histories.is_greeted s) || nat_lt 0 (length cs)))) (Some s.setup.server) None) (sym (chunks_same s s.carried))
+lost_same kind (Some s) = ap (λ (cs : List CarriedChunk). cond (steps.is_lost kind || (s.down || (not (histories.is_greeted s) || nat_lt 0 (length cs)))) (Some s.setup.server) None) (sym (chunks_same s s.carried))
 
 end : (l : Lane) (w : ℕ) (kind : EndKind) (now : ℕ) → IsSaneLane l
     → Agrees live_lane IsSaneLane (steps.end histories l w kind now)

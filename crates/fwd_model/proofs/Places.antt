@@ -8,7 +8,7 @@ use Rattle.fwd_source.specs.History.{SourceHistory}
 use Rattle.fwd_source.specs.Live.{live_source}
 use Rattle.fwd_session.specs.History.{SessionHistory}
 use Rattle.fwd_session.specs.Live.{live_session}
-use Rattle.fwd_chunks.specs.History.{Load}
+use Rattle.fwd_chunks.specs.History.{CarriedChunk}
 use Rattle.fwd_model.specs.Outputs.{OutputHistory, carried_by, not_loaded}
 use Rattle.fwd_model.specs.History.{History, histories, Connection, source_at, with_source, with_gone, is_fresh, loaded_in, taken_by}
 use Rattle.fwd_model.specs.Live.{live_connection, known, last_id, live_worker, live_workers, live_source_at, with_live_source, without}
@@ -209,7 +209,7 @@ others_same o p w b (s ∷ ss) others lt = λ i.
     ∷ others_same o p w (suc b) ss others (omega (arith, lt)) i
 
 pub one_changes : (o p : OutputHistory) (w b j : ℕ) (ss : List (Option SessionHistory))
-    (t x : Option SessionHistory) (taken : Option Load)
+    (t x : Option SessionHistory) (taken : Option CarriedChunk)
     → ((v : ℕ) → w ≢ v → carried_by p.buffer v ≡ carried_by o.buffer v)
     → taken_by p.buffer w t ≡ taken → w ≡ b + j → slice_get ss j ≡ Some x
     → live_workers p b (set ss j t) ≡ set (live_workers o b ss) j

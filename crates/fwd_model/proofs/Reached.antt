@@ -3,7 +3,7 @@ use Rattle.std.proofs.Common.{◌≡◌, ◌≢◌, ℕ, zero, suc, ◌+◌, ◌
 use Rattle.std.proofs.Math.ListN.{set}
 use Rattle.std.specs.Prelude.{◌⊎◌, slice_get}
 use Rattle.std.specs.List.{AllByRecursion}
-use Rattle.fwd_chunks.specs.History.{Load}
+use Rattle.fwd_chunks.specs.History.{CarriedChunk}
 use Rattle.fwd_chunks.proofs.Sane.{IsSane as IsSaneBuffer}
 use Rattle.fwd_source.specs.History.{SourceHistory, IsSane as IsSaneSource}
 use Rattle.fwd_session.specs.History.{SessionHistory, IsSane as IsSaneHistory}
@@ -22,7 +22,7 @@ AllSources (c ∷ cs) = IsSaneSource c.source × AllSources cs
 -- what holds of a worker that has these chunks, and of its session: its history is sane, it has
 -- this window, each of its chunks is one of them, no two of its chunks have one number, and at most
 -- one is left. The chunks are no more than the window
-pub record IsSaneWorker (n : ℕ) (cs : List Load) (x : Option SessionHistory) : Type 0 where
+pub record IsSaneWorker (n : ℕ) (cs : List CarriedChunk) (x : Option SessionHistory) : Type 0 where
   pub own : (s : SessionHistory) → x ≡ Some s → IsSaneHistory s
   pub window : (s : SessionHistory) → x ≡ Some s → s.setup.window ≡ n
   pub his : AllByRecursion (λ c. IsAmong c cs) (loaded_in x)

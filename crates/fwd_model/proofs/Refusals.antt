@@ -9,7 +9,7 @@ use Rattle.fwd_source.specs.declared.piece.Piece.TheVariants as verdict
 use Rattle.fwd_source.specs.History.{Setup, opening_text}
 use Rattle.fwd_chunks.specs.declared.fault.AdmitError.{AdmitError}
 use Rattle.fwd_chunks.specs.declared.fault.AdmitError.TheVariants.{Full, NumbersSpent, Memory}
-use Rattle.fwd_chunks.specs.History.{Load}
+use Rattle.fwd_chunks.specs.History.{CarriedChunk}
 use Rattle.fwd_modes.specs.declared.origin.Origin.{Origin}
 use Rattle.fwd_model.specs.declared.event.Event.{Event}
 use Rattle.fwd_model.specs.declared.event.Event.TheVariants as event
@@ -18,7 +18,7 @@ use Rattle.fwd_model.specs.declared.answer.Answer.TheVariants as answer
 use Rattle.fwd_model.specs.declared.fault.Refusal.TheVariants.{Closed, NoSuch, NotNow, NotUp}
 use Rattle.fwd_session.specs.declared.told.SessionHeard.{SessionHeard}
 use Rattle.fwd_session.specs.declared.told.SessionHeard.TheVariants as heard_as
-use Rattle.fwd_session.specs.Evidence.{frame_of}
+use Rattle.fwd_session.specs.ServerAcks.{frame_of}
 use Rattle.fwd_model.specs.declared.config.OutputConfig.{OutputConfig}
 use Rattle.fwd_model.specs.declared.event.EndKind.{EndKind}
 use Rattle.fwd_model.specs.Outcome.{Outcome, Stays, Goes, answer_of, state_of, is_refusal, of_piece, of_heard, first_of, chunk_answer}
@@ -33,7 +33,7 @@ use Rattle.fwd_model.proofs.Onward.{Onward, to, past, past_found, source_on, lan
 abbrev Answered : {S : Type 0} → Answer → S → Type 0
 Answered a s = is_refusal a ≡ false
 
-chunk_counts : (c : Option Load) → is_refusal (chunk_answer c) ≡ false
+chunk_counts : (c : Option CarriedChunk) → is_refusal (chunk_answer c) ≡ false
 chunk_counts None = refl
 chunk_counts (Some c) = refl
 

@@ -6,19 +6,19 @@ use Rattle.std.proofs.lemmas.Bool.Decides.{nat_tests}
 use Rattle.std.proofs.lemmas.Bool.{and_parts}
 use Rattle.fwd_chunks.specs.declared.span.Span.{Span}
 use Rattle.fwd_chunks.specs.Cells.{has_number}
-use Rattle.fwd_session.specs.Evidence.{Evidence}
+use Rattle.fwd_session.specs.ServerAcks.{ServerAck}
 use Rattle.fwd_book.specs.History.{evidence_of, are_fresh}
 
 -- the numbers that were acknowledged
-abbrev pub numbers_in : List Evidence → List ℕ
+abbrev pub numbers_in : List ServerAck → List ℕ
 numbers_in es = map (λ e. e.number) es
 
-pub numbers_in-push : (es : List Evidence) (e : Evidence)
+pub numbers_in-push : (es : List ServerAck) (e : ServerAck)
     → numbers_in (es ++ e ∷ []) ≡ numbers_in es ++ e.number ∷ []
 numbers_in-push [] e = refl
 numbers_in-push (d ∷ es) e = ap (λ ns. d.number ∷ ns) (numbers_in-push es e)
 
-pub found-numbered : (k : ℕ) (es : List Evidence)
+pub found-numbered : (k : ℕ) (es : List ServerAck)
     → is_some (evidence_of es k) ≡ has_number k (numbers_in es)
 found-numbered k [] = refl
 found-numbered k (e ∷ es) = by (e.number == k) (found-numbered k es)
@@ -29,7 +29,7 @@ found-numbered k (e ∷ es) = by (e.number == k) (found-numbered k es)
     by false rest = rest
 
 -- none of the runs has the number, and none one of the others
-unsettled-one : (e : Evidence) (ns : List ℕ) (spans : List Span)
+unsettled-one : (e : ServerAck) (ns : List ℕ) (spans : List Span)
     → list_all (λ s. not (has_number s.number (e.number ∷ ns))) spans ≡ true
     → (list_any (λ s. s.number == e.number) spans ≡ false)
     × (list_all (λ s. not (has_number s.number ns)) spans ≡ true)
@@ -50,12 +50,12 @@ unsettled-one e ns (s ∷ spans) h =
     turned : (m n : ℕ) → (m == n) ≡ false → (n == m) ≡ false
     turned m n f = grind (arith, nat_tests, f)
 
-pub unsettled-fresh : (es : List Evidence) (spans : List Span)
+pub unsettled-fresh : (es : List ServerAck) (spans : List Span)
     → list_all (λ s. not (has_number s.number (numbers_in es))) spans ≡ true
     → are_fresh es spans ≡ true
 unsettled-fresh es spans h = ap not (none es h)
   where
-    none : (ds : List Evidence)
+    none : (ds : List ServerAck)
         → list_all (λ s. not (has_number s.number (numbers_in ds))) spans ≡ true
         → list_any (λ e. list_any (λ s. s.number == e.number) spans) ds ≡ false
     none [] f = refl

@@ -3,7 +3,7 @@ use Rattle.std.proofs.Common.{◌≡◌, ◌≢◌, ℕ, zero, suc, ◌≤◌, B
 use Rattle.std.specs.Prelude.{map, not, ◌||◌, ◌==◌, slice_get}
 use Rattle.std.proofs.lemmas.Bool.Decides.{nat_tests}
 use Rattle.fwd_chunks.specs.Cells.{Carry, is_carried, without}
-use Rattle.fwd_chunks.specs.History.{BufferHistory, Load, load_of}
+use Rattle.fwd_chunks.specs.History.{BufferHistory, CarriedChunk, carried_chunk_of}
 use Rattle.fwd_model.specs.Outputs.{carries_of, carried_by, has_chunk}
 use Rattle.fwd_model.proofs.Chunks.{IsAmong, among-has, times, others, others-none}
 
@@ -15,8 +15,8 @@ AreApart (c ∷ cs) = (is_carried c.number cs ≡ false) × AreApart cs
 -- ---- the chunks that a worker has
 
 -- the chunks of what is carried
-abbrev pub loads_of : BufferHistory → List Carry → List Load
-loads_of b cs = map (λ c. load_of b c.number) cs
+abbrev pub loads_of : BufferHistory → List Carry → List CarriedChunk
+loads_of b cs = map (λ c. carried_chunk_of b c.number) cs
 
 pub has-loads : (b : BufferHistory) (k : ℕ) (cs : List Carry)
     → has_chunk k (loads_of b cs) ≡ is_carried k cs
@@ -34,20 +34,20 @@ pub mine-carried : (b : BufferHistory) (w k : ℕ) → has_chunk k (carried_by b
 mine-carried b w k h = carries-carried w k b.carried (sym (has-loads b k (carries_of w b.carried)) ∙ h)
 
 -- what a chunk that a worker has says of the buffer
-pub record IsHis (b : BufferHistory) (w : ℕ) (c : Load) : Type 0 where
+pub record IsHis (b : BufferHistory) (w : ℕ) (c : CarriedChunk) : Type 0 where
   pub mine : has_chunk c.number (carried_by b w) ≡ true
   pub carried : is_carried c.number b.carried ≡ true
-  pub same : load_of b c.number ≡ c
+  pub same : carried_chunk_of b c.number ≡ c
 
-load_at : (b : BufferHistory) (c : Load) (cs : List Carry) (i : ℕ)
-    → slice_get (loads_of b cs) i ≡ Some c → load_of b c.number ≡ c
+load_at : (b : BufferHistory) (c : CarriedChunk) (cs : List Carry) (i : ℕ)
+    → slice_get (loads_of b cs) i ≡ Some c → carried_chunk_of b c.number ≡ c
 load_at b c [] i h = absurd cc
 load_at b c (d ∷ cs) zero h =
-    let same : load_of b d.number ≡ c = cc in
-    ap (load_of b) (ap (λ (y : Load). y.number) (sym same)) ∙ same
+    let same : carried_chunk_of b d.number ≡ c = cc in
+    ap (carried_chunk_of b) (ap (λ (y : CarriedChunk). y.number) (sym same)) ∙ same
 load_at b c (d ∷ cs) (suc i) h = load_at b c cs i h
 
-pub his : (b : BufferHistory) (w : ℕ) (c : Load) → IsAmong c (carried_by b w) → IsHis b w c
+pub his : (b : BufferHistory) (w : ℕ) (c : CarriedChunk) → IsAmong c (carried_by b w) → IsHis b w c
 his b w c one =
     let mine = among-has c (carried_by b w) one in
     record { mine = mine; carried = mine-carried b w c.number mine; same = load_at b c (carries_of w b.carried) one.place one.here }
@@ -121,11 +121,11 @@ mine-without b w k (c ∷ cs) = by (eqb c.worker w) (eqb c.number k) refl refl (
         → loads_of b (carries_of w (without k cs)) ≡ others k (loads_of b (carries_of w cs))
         → loads_of b (carries_of w (cond (not t) (c ∷ without k cs) (without k cs)))
         ≡ others k (loads_of b (cond a (c ∷ carries_of w cs) (carries_of w cs)))
-    by true true e f rest = rest ∙ sym (ap (λ x. cond (not x) (load_of b c.number ∷ others k (loads_of b (carries_of w cs))) (others k (loads_of b (carries_of w cs)))) f)
+    by true true e f rest = rest ∙ sym (ap (λ x. cond (not x) (carried_chunk_of b c.number ∷ others k (loads_of b (carries_of w cs))) (others k (loads_of b (carries_of w cs)))) f)
     by true false e f rest =
         ap (λ x. loads_of b (cond x (c ∷ carries_of w (without k cs)) (carries_of w (without k cs)))) e
-        ∙ ap (λ xs. load_of b c.number ∷ xs) rest
-        ∙ sym (ap (λ x. cond (not x) (load_of b c.number ∷ others k (loads_of b (carries_of w cs))) (others k (loads_of b (carries_of w cs)))) f)
+        ∙ ap (λ xs. carried_chunk_of b c.number ∷ xs) rest
+        ∙ sym (ap (λ x. cond (not x) (carried_chunk_of b c.number ∷ others k (loads_of b (carries_of w cs))) (others k (loads_of b (carries_of w cs)))) f)
     by false true e f rest = rest
     by false false e f rest = ap (λ x. loads_of b (cond x (c ∷ carries_of w (without k cs)) (carries_of w (without k cs)))) e ∙ rest
 

@@ -9,7 +9,7 @@ use Rattle.fwd_chunks.specs.declared.fault.AdmitError.{AdmitError}
 use Rattle.fwd_chunks.specs.declared.fault.AdmitError.TheVariants.{Full, NumbersSpent, Memory}
 use Rattle.fwd_session.specs.History as session
 use Rattle.fwd_session.specs.History.{SessionHistory}
-use Rattle.fwd_session.specs.Evidence.{evidence_of, frame_of}
+use Rattle.fwd_session.specs.ServerAcks.{evidence_of, frame_of}
 use Rattle.fwd_model.specs.declared.config.Config.{Config}
 use Rattle.fwd_model.specs.declared.event.EndKind.{EndKind}
 use Rattle.fwd_model.specs.declared.event.Event.{Event}

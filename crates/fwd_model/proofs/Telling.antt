@@ -7,7 +7,7 @@ use Rattle.fwd_modes.specs.declared.origin.Origin.{Origin}
 use Rattle.fwd_chunks.specs.Cells.{Cell, has_number}
 use Rattle.fwd_chunks.specs.Spans.{AreRising}
 use Rattle.fwd_chunks.proofs.CellLemmas.{has_cell, numbers-has}
-use Rattle.fwd_session.specs.Evidence.{Evidence}
+use Rattle.fwd_session.specs.ServerAcks.{ServerAck}
 use Rattle.fwd_book.specs.History.{Fate, Untold, Told, Forgotten, Admission, evidence_of, is_settled, is_of, is_untold, is_owed_to, is_due}
 use Rattle.fwd_source.specs.History.{SourceHistory}
 use Rattle.fwd_model.specs.declared.config.Config.{Config}
@@ -32,10 +32,10 @@ use Rattle.std.proofs.lemmas.Bool.{eqb-true}
 -- ---- which requests are told
 
 -- the requests that a collect of the connection tells
-abbrev told_of : ℕ → List Evidence → List Admission → List ℕ
+abbrev told_of : ℕ → List ServerAck → List Admission → List ℕ
 told_of id acked admissions = numbers_of (map (λ (a : Admission). a.request) (filter (is_due id acked) admissions))
 
-told_front : (id : ℕ) (acked : List Evidence) (a : Admission) (admissions : List Admission)
+told_front : (id : ℕ) (acked : List ServerAck) (a : Admission) (admissions : List Admission)
     (b : Bool) → is_due id acked a ≡ b
     → told_of id acked (a ∷ admissions)
     ≡ cond b (a.request.origin.request ∷ told_of id acked admissions) (told_of id acked admissions)
@@ -43,18 +43,18 @@ told_front id acked a admissions true h = ap (λ t. numbers_of (map (λ (x : Adm
 told_front id acked a admissions false h = ap (λ t. numbers_of (map (λ (x : Admission). x.request) (cond t (a ∷ filter (is_due id acked) admissions) (filter (is_due id acked) admissions)))) h
 
 -- an admission that is due, with this number
-record Found (id r : ℕ) (acked : List Evidence) (admissions : List Admission) : Type 0 where
+record Found (id r : ℕ) (acked : List ServerAck) (admissions : List Admission) : Type 0 where
   place : ℕ
   admission : Admission
   here : slice_get admissions place ≡ Some admission
   due : is_due id acked admission ≡ true
   number : admission.request.origin.request ≡ r
 
-further : (id r : ℕ) (acked : List Evidence) (a : Admission) (admissions : List Admission)
+further : (id r : ℕ) (acked : List ServerAck) (a : Admission) (admissions : List Admission)
     → Found id r acked admissions → Found id r acked (a ∷ admissions)
 further id r acked a admissions f = record { place = suc f.place; admission = f.admission; here = f.here; due = f.due; number = f.number }
 
-told_found : (id r : ℕ) (acked : List Evidence) (admissions : List Admission)
+told_found : (id r : ℕ) (acked : List ServerAck) (admissions : List Admission)
     → has_number r (told_of id acked admissions) ≡ true → Found id r acked admissions
 told_found id r acked [] h = absurd cc
 told_found id r acked (a ∷ admissions) h = by (is_due id acked a) refl (eqb a.request.origin.request r) refl (λ g. further id r acked a admissions (told_found id r acked admissions g))
@@ -102,14 +102,14 @@ rising-cons n ns above rising (suc i) zero m k before at_i at_j = absurd (omega 
 rising-cons n ns above rising (suc i) (suc j) m k before at_i at_j = rising i j m k (omega (arith, before)) at_i at_j
 
 -- a request that is due is the connection's
-due_conn : (id : ℕ) (acked : List Evidence) (a : Admission) → is_due id acked a ≡ true
+due_conn : (id : ℕ) (acked : List ServerAck) (a : Admission) → is_due id acked a ≡ true
     → a.request.origin.conn ≡ id
 due_conn id acked a h =
     let parts = and_parts (is_owed_to id a) (is_settled acked a.request) h in
     let its = and_parts (is_untold a.fate) (is_of id a.request) parts.0 in
     eqb-true a.request.origin.conn id its.1
 
-told_above : (id : ℕ) (acked : List Evidence) (origin : Origin) (admissions : List Admission)
+told_above : (id : ℕ) (acked : List ServerAck) (origin : Origin) (admissions : List Admission)
     → origin.conn ≡ id → AllAfter origin admissions
     → AllAbove origin.request (told_of id acked admissions)
 told_above id acked origin [] own all = tt
@@ -120,7 +120,7 @@ told_above id acked origin (a ∷ admissions) own all = by (is_due id acked a) r
     by true due rest = subst (AllAbove origin.request) (sym (told_front id acked a admissions true due)) (all.0 (due_conn id acked a due ∙ sym own), rest)
     by false due rest = subst (AllAbove origin.request) (sym (told_front id acked a admissions false due)) rest
 
-told_rising : (id : ℕ) (acked : List Evidence) (admissions : List Admission)
+told_rising : (id : ℕ) (acked : List ServerAck) (admissions : List Admission)
     → AreNumbered admissions → AreRising (told_of id acked admissions)
 told_rising id acked [] own = rising-none
 told_rising id acked (a ∷ admissions) own = by (is_due id acked a) refl (told_rising id acked admissions own.1)

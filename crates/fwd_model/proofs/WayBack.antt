@@ -7,7 +7,7 @@ use Rattle.fwd_session.specs.declared.fault.SessionFault.{SessionFault}
 use Rattle.fwd_session.specs.declared.told.SessionHeard.{SessionHeard}
 use Rattle.fwd_session.specs.declared.told.SessionHeard.TheVariants as heard_as
 use Rattle.fwd_session.specs.Said.{Said, out_of}
-use Rattle.fwd_session.specs.Evidence.{Accepted, Evidence, evidence_of}
+use Rattle.fwd_session.specs.ServerAcks.{Accepted, ServerAck, evidence_of}
 use Rattle.fwd_session.specs.History.{SessionHistory, IsAcknowledged, handshake_of, is_handed_on, is_done, first_in, says, newly_accepted, listens, unloads, told_by, told_of}
 use Rattle.fwd_session.proofs.Accepting.{acknowledged}
 use Rattle.fwd_chunks.specs.declared.span.Span.{Span}
@@ -300,7 +300,7 @@ behind_fault-each h o w i a bytes l m s f here at up has fault there =
 
 -- ---- a request without entries
 
-pub listed : (id : ℕ) (acked : List Evidence) (admissions : List Admission) (i : ℕ) (a : Admission)
+pub listed : (id : ℕ) (acked : List ServerAck) (admissions : List Admission) (i : ℕ) (a : Admission)
     → slice_get admissions i ≡ Some a → is_due id acked a ≡ true
     → has_number a.request.origin.request
     (numbers_of (map (λ x. x.request) (filter (is_due id acked) admissions))) ≡ true

@@ -6,9 +6,9 @@ use Rattle.std.proofs.lemmas.List.{length-append}
 use Rattle.std.proofs.lemmas.Bool.Decides.{nat_tests}
 use Rattle.std.proofs.lemmas.Option.{same_Some}
 use Rattle.fwd_chunks.specs.Cells.{has_number}
-use Rattle.fwd_chunks.specs.History.{BufferHistory, Load}
+use Rattle.fwd_chunks.specs.History.{BufferHistory, CarriedChunk}
 use Rattle.fwd_chunks.specs.Spans.{AreRising}
-use Rattle.fwd_session.specs.Evidence.{Accepted}
+use Rattle.fwd_session.specs.ServerAcks.{Accepted}
 use Rattle.fwd_session.specs.History.{Loaded, SessionHistory, chunks_of, room}
 use Rattle.fwd_session.specs.Live.{LiveSession, live_room, live_session}
 use Rattle.fwd_session.proofs.Following.{room-live}
@@ -48,16 +48,16 @@ few_chunks config h o w l x is here at =
     ((own_lane config h o l is here).workers w x.session (worker_is l w x at).here).few
 
 -- a session has room for the chunk that its worker took and did not load
-room_left : (n : ℕ) (cs : List Load) (s : SessionHistory) (c : Load) → IsSaneWorker n cs (Some s)
+room_left : (n : ℕ) (cs : List CarriedChunk) (s : SessionHistory) (c : CarriedChunk) → IsSaneWorker n cs (Some s)
     → not_loaded (loaded_in (Some s)) cs ≡ Some c → 0 < room s
 room_left n cs s c fits found =
     let front = chunks_of s.carried in
     let back = map (λ (a : Accepted). a.chunk) s.accepted in
-    let one = some_pass (λ (d : Load). not (has_chunk d.number (loaded_in (Some s)))) cs c found in
+    let one = some_pass (λ (d : CarriedChunk). not (has_chunk d.number (loaded_in (Some s)))) cs c found in
     omega (arith, one, fits.whole, fits.few, fits.window s refl, length-append front back, length_map (λ (l : Loaded). l.chunk) s.carried, length_map (λ (a : Accepted). a.chunk) s.accepted)
 
 pub has_room : (config : Config) (h : History) (o w : ℕ) (l : Lane) (x : Worker SessionHistory)
-    (s : SessionHistory) (c : Load)
+    (s : SessionHistory) (c : CarriedChunk)
     → IsReached config h → slice_get h.lanes o ≡ Some l → histories.worker_at l w ≡ Some x
     → x.session ≡ Some s → x.taken ≡ Some c → 0 < room s
 has_room config h o w l x s c is here at session taken =
@@ -86,7 +86,7 @@ shown_worker l k w x same at =
 
 -- and so does its live part
 pub has_room-live : (config : Config) (h : History) (o w : ℕ) (l : LiveLane)
-    (x : Worker LiveSession) (s : LiveSession) (c : Load)
+    (x : Worker LiveSession) (s : LiveSession) (c : CarriedChunk)
     → IsReached config h → slice_get (live h).lanes o ≡ Some l → lives.worker_at l w ≡ Some x
     → x.session ≡ Some s → x.taken ≡ Some c → 0 < live_room s
 has_room-live config h o w l x s c is here at session taken =
@@ -166,7 +166,7 @@ pub record GivesBack (b : BufferHistory) (w : ℕ) (numbers : List ℕ) : Type 0
   pub all : (k : ℕ) → has_number k numbers ≡ has_chunk k (carried_by b w)
 
 -- a number that is given back is one of the worker's chunk's
-has_his : (k : ℕ) (cs : List Load) (ks : List ℕ)
+has_his : (k : ℕ) (cs : List CarriedChunk) (ks : List ℕ)
     → AllByRecursion (λ j. has_chunk j cs ≡ true) ks → has_number k ks ≡ true
     → has_chunk k cs ≡ true
 has_his k cs [] all h = absurd cc
@@ -178,7 +178,7 @@ has_his k cs (j ∷ ks) all h = by (j == k) refl h (λ g. has_his k cs ks all.1 
     by false e h rest = rest h
 
 -- and the other way round, where no chunk is left
-has_given : (k : ℕ) (ks : List ℕ) (cs : List Load)
+has_given : (k : ℕ) (ks : List ℕ) (cs : List CarriedChunk)
     → filter (λ c. not (has_number c.number ks)) cs ≡ [] → has_chunk k cs ≡ true
     → has_number k ks ≡ true
 has_given k ks [] none h = absurd cc

@@ -36,7 +36,7 @@ use Rattle.fwd_source.specs.History.{SourceHistory, judged}
 use Rattle.fwd_model.specs.declared.answer.Answer.{Answer}
 use Rattle.fwd_model.specs.Outcome.{answer_of}
 use Rattle.fwd_model.specs.Step.{step, after}
-use Rattle.fwd_chunks.specs.History.{Load}
+use Rattle.fwd_chunks.specs.History.{CarriedChunk}
 use Rattle.fwd_session.specs.History.{Loaded, SessionHistory, is_handed_on, newly_heard}
 use Rattle.fwd_book.specs.History.{Untold, Admission}
 use Rattle.fwd_model.specs.declared.event.EndKind.{EndKind}
@@ -126,9 +126,9 @@ pub record WasSent (config : Config) (es : List Event) (o w : ℕ) (frame : List
   pub taken : IsTaken session loaded.session.appended frame
   pub kept : NoneEnded config (before ++ event.Wrote o w count ∷ []) later o w
 
--- a chunk was loaded into a session, and its frame is handed on: the link took all bytes through its
--- last
-pub record IsHandedOn (s : SessionHistory) (c : Load) : Type 0 where
+-- a chunk was loaded into a session, and its frame is handed on: the link took all bytes through
+-- its last
+pub record IsHandedOn (s : SessionHistory) (c : CarriedChunk) : Type 0 where
   pub place : ℕ
   pub loaded : Loaded
   pub carried : slice_get s.carried place ≡ Some loaded

@@ -36,7 +36,7 @@ use Rattle.fwd_chunks.specs.Counts.{Counts}
 use Rattle.fwd_chunks.specs.Report.{Report}
 use Rattle.fwd_chunks.specs.TagCounts.{report}
 use Rattle.fwd_chunks.specs.History as buffer
-use Rattle.fwd_chunks.specs.History.{BufferHistory, Load, load_of, looks}
+use Rattle.fwd_chunks.specs.History.{BufferHistory, CarriedChunk, carried_chunk_of, looks}
 use Rattle.fwd_session.specs.History.{SessionHistory, chunks_of}
 use Rattle.fwd_book.specs.History as book
 use Rattle.fwd_book.specs.History.{BookHistory}
@@ -179,12 +179,12 @@ with_lane o l h = record h { lanes = slice_set h.lanes o l }
 
 -- the chunks that a session has: those that are not acknowledged, and those that are and are not
 -- taken out
-abbrev pub loaded_in : Option SessionHistory → List Load
+abbrev pub loaded_in : Option SessionHistory → List CarriedChunk
 loaded_in None = []
 loaded_in (Some s) = chunks_of s.carried ++ map (λ a. a.chunk) s.accepted
 
 -- the chunk that a worker took and did not load yet
-abbrev pub taken_by : BufferHistory → ℕ → Option SessionHistory → Option Load
+abbrev pub taken_by : BufferHistory → ℕ → Option SessionHistory → Option CarriedChunk
 taken_by b w s = not_loaded (loaded_in s) (carried_by b w)
 
 -- a worker
@@ -209,7 +209,7 @@ lane_histories = record {
   chosen = λ l w now. output_history_choice l.output w now;
   watches = λ l now. with_output l (output_history_looks l.output now);
   given = λ l now.
-      option_map (load_of l.output.buffer) (buffer.given (looks l.output.buffer now));
+      option_map (carried_chunk_of l.output.buffer) (buffer.given (looks l.output.buffer now));
   takes = λ l w x now. with_buffer l (buffer.takes l.output.buffer w now);
   entries_at = λ l number. count_at number l.output;
   settles = λ l w x e.

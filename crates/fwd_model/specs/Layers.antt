@@ -9,9 +9,9 @@ use Rattle.fwd_source.specs.History.{Setup}
 use Rattle.fwd_source.specs.Layer.{Sources}
 use Rattle.fwd_chunks.specs.declared.fault.AdmitError.{AdmitError}
 use Rattle.fwd_chunks.specs.declared.flush.FlushKind.{FlushKind}
-use Rattle.fwd_chunks.specs.History.{Load}
+use Rattle.fwd_chunks.specs.History.{CarriedChunk}
 use Rattle.fwd_session.specs.declared.told.SessionHeard.{SessionHeard}
-use Rattle.fwd_session.specs.Evidence.{Accepted, Evidence}
+use Rattle.fwd_session.specs.ServerAcks.{Accepted, ServerAck}
 use Rattle.fwd_session.specs.History as session
 use Rattle.fwd_model.specs.declared.config.OutputConfig.{OutputConfig}
 use Rattle.fwd_model.specs.Books.{Telling}
@@ -19,7 +19,7 @@ use Rattle.fwd_model.specs.Outputs.{Return}
 
 -- a worker: the chunk that it took and did not load yet, with its entries, and its session
 pub record Worker (Session : Type 0) : Type 0 where
-  pub taken : Option Load
+  pub taken : Option CarriedChunk
   pub session : Option Session
 
 -- a session of a worker with a server
@@ -29,7 +29,7 @@ pub record Sessions : Type 1 where
   pub server : Session → ℕ
   -- the chunks that were loaded and are not acknowledged, in the order of their loads; the one
   -- whose acknowledgement was accepted first, with that; and how many more it may have
-  pub unacknowledged : Session → List Load
+  pub unacknowledged : Session → List CarriedChunk
   pub acked : Session → Option Accepted
   pub room : Session → ℕ
   -- whether its handshake is done, whether a chunk may be loaded, whether a fault or lateness put
@@ -46,7 +46,7 @@ pub record Sessions : Type 1 where
   -- it begins; is loaded with a chunk; its link takes bytes; a piece is heard; it is asked whether
   -- it is late; the chunk that was accepted first is taken out
   pub begins : session.Setup → Session
-  pub loads : Session → Load → ℕ → Session
+  pub loads : Session → CarriedChunk → ℕ → Session
   pub sends : Session → ℕ → Session
   pub listens : Session → List ℕ → Session
   pub looks : Session → ℕ → Session
@@ -76,11 +76,11 @@ pub record Lanes (Session : Type 0) : Type 1 where
   pub chosen : Lane → ℕ → ℕ → Option ℕ
   pub watches : Lane → ℕ → Lane
   -- the chunk that has the least free number at a moment, and that the worker takes it
-  pub given : Lane → ℕ → Option Load
+  pub given : Lane → ℕ → Option CarriedChunk
   pub takes : Lane → ℕ → Worker Session → ℕ → Lane
   -- how many entries a number has, and that they are settled, which leaves the worker so
   pub entries_at : Lane → ℕ → ℕ
-  pub settles : Lane → ℕ → Worker Session → Evidence → Lane
+  pub settles : Lane → ℕ → Worker Session → ServerAck → Lane
   -- a worker has no session and no chunk any more: what it gives back, the server that is lost,
   -- and the moment
   pub ends : Lane → ℕ → List Return → (server : Option ℕ) → (now : ℕ) → Lane

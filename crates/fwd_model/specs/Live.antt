@@ -32,7 +32,7 @@ use Rattle.fwd_model.specs.declared.config.OutputConfig.{OutputConfig}
 use Rattle.fwd_chunks.specs.Counts.{Counts}
 use Rattle.fwd_chunks.specs.Report.{Report}
 use Rattle.fwd_chunks.specs.TagCounts.{live_report}
-use Rattle.fwd_chunks.specs.History.{Load}
+use Rattle.fwd_chunks.specs.History.{CarriedChunk}
 use Rattle.fwd_chunks.specs.Live as buffer
 use Rattle.fwd_chunks.specs.Live.{
   LiveBuffer,
@@ -40,11 +40,11 @@ use Rattle.fwd_chunks.specs.Live.{
   live_closing,
   live_flushes,
   live_given,
-  live_load,
+  live_carried_chunk,
   live_looks,
   live_counts,
 }
-use Rattle.fwd_session.specs.Evidence.{Evidence}
+use Rattle.fwd_session.specs.ServerAcks.{ServerAck}
 use Rattle.fwd_book.specs.Live.{LiveBook, live_due, live_tells_due, live_owed_of, live_forgets_of}
 use Rattle.fwd_model.specs.Books.{telling}
 use Rattle.fwd_session.specs.History.{SessionHistory}
@@ -192,9 +192,9 @@ abbrev pub with_live_worker : LiveLane → ℕ → Worker LiveSession → LiveLa
 with_live_worker l w x = record l { workers = slice_set l.workers w x }
 
 -- the chunk that has the least free number at a moment
-abbrev pub lane_gives : LiveLane → ℕ → Option Load
+abbrev pub lane_gives : LiveLane → ℕ → Option CarriedChunk
 lane_gives l now =
-    option_map (live_load l.output.buffer) (live_given (live_looks l.output.buffer now))
+    option_map (live_carried_chunk l.output.buffer) (live_given (live_looks l.output.buffer now))
 
 -- the worker takes that chunk, if there is one
 abbrev pub lane_takes : LiveLane → ℕ → Worker LiveSession → ℕ → LiveLane
@@ -204,7 +204,7 @@ lane_takes l w x now = record l {
 }
 
 -- a chunk of the worker is settled, which leaves it so
-abbrev pub lane_settles : LiveLane → ℕ → Worker LiveSession → Evidence → LiveLane
+abbrev pub lane_settles : LiveLane → ℕ → Worker LiveSession → ServerAck → LiveLane
 lane_settles l w x e = record l {
   output = output_settles l.output e;
   workers = slice_set l.workers w x;

@@ -7,7 +7,7 @@ use Rattle.fwd_session.specs.declared.told.SessionHeard.{SessionHeard}
 use Rattle.fwd_session.specs.declared.told.SessionHeard.TheVariants as heard
 use Rattle.fwd_chunks.specs.declared.fault.AdmitError.{AdmitError}
 use Rattle.fwd_chunks.specs.declared.fault.AdmitError.TheVariants as unfit
-use Rattle.fwd_chunks.specs.History.{Load}
+use Rattle.fwd_chunks.specs.History.{CarriedChunk}
 use Rattle.fwd_model.specs.declared.answer.Answer.{Answer}
 use Rattle.fwd_model.specs.declared.answer.Answer.TheVariants as answer
 use Rattle.fwd_model.specs.declared.fault.Refusal.{Refusal}
@@ -95,6 +95,6 @@ first_of [] = None
 first_of (q ∷ qs) = Some q
 
 -- what is told of the least free chunk
-abbrev pub chunk_answer : Option Load → Answer
+abbrev pub chunk_answer : Option CarriedChunk → Answer
 chunk_answer None = answer.TookNothing
 chunk_answer (Some c) = answer.Took c.number (length c.entries)

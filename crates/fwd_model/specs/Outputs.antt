@@ -8,7 +8,7 @@ use Rattle.fwd_modes.specs.Requests.{Request}
 use Rattle.fwd_modes.specs.declared.origin.Origin.{Origin}
 use Rattle.fwd_chunks.specs.Cells.{Carry, contents}
 use Rattle.fwd_chunks.specs.History as buffer
-use Rattle.fwd_chunks.specs.History.{BufferSetting, BufferHistory, Load, load_of, spans_of}
+use Rattle.fwd_chunks.specs.History.{BufferSetting, BufferHistory, CarriedChunk, carried_chunk_of, spans_of}
 use Rattle.fwd_chunks.specs.Live.{
   LiveBuffer,
   live_buffer,
@@ -32,7 +32,7 @@ use Rattle.fwd_failover.specs.Live.{
   live_lost,
   live_settled,
 }
-use Rattle.fwd_session.specs.Evidence.{Evidence}
+use Rattle.fwd_session.specs.ServerAcks.{ServerAck}
 use Rattle.fwd_book.specs.History as book
 use Rattle.fwd_book.specs.History.{BookSetting, BookHistory, entered_as}
 use Rattle.fwd_book.specs.Live as kept
@@ -45,16 +45,16 @@ abbrev pub carries_of : ℕ → List Carry → List Carry
 carries_of worker carried = filter (λ c. c.worker == worker) carried
 
 -- the chunks that the worker has, with their entries
-abbrev pub carried_by : BufferHistory → ℕ → List Load
-carried_by b worker = map (λ c. load_of b c.number) (carries_of worker b.carried)
+abbrev pub carried_by : BufferHistory → ℕ → List CarriedChunk
+carried_by b worker = map (λ c. carried_chunk_of b c.number) (carries_of worker b.carried)
 
 -- one of the chunks has the number
-abbrev pub has_chunk : ℕ → List Load → Bool
+abbrev pub has_chunk : ℕ → List CarriedChunk → Bool
 has_chunk number chunks = list_any (λ c. c.number == number) chunks
 
 -- the chunk that a worker took and did not load yet: of those that it has, the one that its session
 -- does not have
-abbrev pub not_loaded : (loaded : List Load) → List Load → Option Load
+abbrev pub not_loaded : (loaded : List CarriedChunk) → List CarriedChunk → Option CarriedChunk
 not_loaded loaded chunks = find (λ c. not (has_chunk c.number loaded)) chunks
 
 -- ---- what a worker gives back
@@ -65,12 +65,12 @@ pub record Return : Type 0 where
   pub lost : Bool
 
 -- a chunk is given back
-abbrev pub return_of : (lost : Bool) → Load → Return
+abbrev pub return_of : (lost : Bool) → CarriedChunk → Return
 return_of lost c = record { number = c.number; lost = lost }
 
 -- a worker gives back the chunk that it took and did not load, without a loss, and those that were
 -- loaded and not acknowledged, with a loss each
-abbrev pub returned : Option Load → (unacknowledged : List Load) → List Return
+abbrev pub returned : Option CarriedChunk → (unacknowledged : List CarriedChunk) → List Return
 returned taken unacknowledged =
     map (return_of false) (option_to_list taken) ++ map (return_of true) unacknowledged
 
@@ -126,7 +126,7 @@ abbrev pub count_at : ℕ → OutputHistory → ℕ
 count_at number o = length (contents number o.buffer.cells)
 
 -- a server acknowledged a chunk
-abbrev pub output_history_settles : OutputHistory → Evidence → OutputHistory
+abbrev pub output_history_settles : OutputHistory → ServerAck → OutputHistory
 output_history_settles o e = record o {
   buffer = buffer.settles o.buffer e.number;
   book = book.settles o.book e;
@@ -202,7 +202,7 @@ abbrev pub live_count_at : ℕ → LiveOutput → ℕ
 live_count_at number o = held_in (filter (is_at number) o.buffer.chunks)
 
 -- a server acknowledged a chunk
-abbrev pub output_settles : LiveOutput → Evidence → LiveOutput
+abbrev pub output_settles : LiveOutput → ServerAck → LiveOutput
 output_settles o e = record {
   buffer = live_settles o.buffer e.number;
   book = kept.live_settles o.book e;

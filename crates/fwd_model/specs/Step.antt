@@ -30,8 +30,8 @@ use Rattle.fwd_model.specs.declared.event.Event.{Event}
 use Rattle.fwd_model.specs.declared.event.Event.TheVariants as event
 use Rattle.fwd_chunks.specs.declared.fault.AdmitError.{AdmitError}
 use Rattle.fwd_chunks.specs.declared.flush.FlushKind.{FlushKind}
-use Rattle.fwd_chunks.specs.History.{Load}
-use Rattle.fwd_session.specs.Evidence.{evidence_of, frame_of}
+use Rattle.fwd_chunks.specs.History.{CarriedChunk}
+use Rattle.fwd_session.specs.ServerAcks.{evidence_of, frame_of}
 use Rattle.fwd_model.specs.declared.config.OutputConfig.{OutputConfig}
 use Rattle.fwd_model.specs.declared.event.EndKind.{EndKind}
 use Rattle.fwd_model.specs.declared.event.EndKind.TheVariants.{Kept, Lost}
@@ -316,7 +316,7 @@ module _ (L : Layers) where
   has_acked (Some s) = is_some (acked s)
 
   -- the chunks that were loaded and are not acknowledged
-  abbrev pub unacknowledged_of : Option Session → List Load
+  abbrev pub unacknowledged_of : Option Session → List CarriedChunk
   unacknowledged_of None = []
   unacknowledged_of (Some s) = unacknowledged s
 

@@ -35,12 +35,12 @@ ghost use Rattle.fwd_model.specs.Outcome.{answer_of, state_of, within, is_refusa
 ghost use Rattle.fwd_model.specs.Step.{step, answers, after};
 ghost use Rattle.fwd_chunks.specs.Cells.{has_number};
 ghost use Rattle.fwd_chunks.specs.Spans.{AreRising};
-ghost use Rattle.fwd_chunks.specs.History.{Load};
+ghost use Rattle.fwd_chunks.specs.History.{CarriedChunk};
 ghost use Rattle.fwd_model.specs.Layers.{Worker};
 ghost use Rattle.fwd_model.specs.Outputs.{carried_by, count_at, has_chunk};
 ghost use Rattle.fwd_book.specs.History.{Untold, Told, Admission, request_at, untold};
 ghost use Rattle.fwd_session.specs.declared.fault.SessionFault.{SessionFault};
-ghost use Rattle.fwd_session.specs.Evidence.{Accepted};
+ghost use Rattle.fwd_session.specs.ServerAcks.{Accepted};
 ghost use Rattle.fwd_session.specs.History.{
   SessionHistory,
   first_in,
@@ -234,12 +234,12 @@ pub fn window_is_kept()
         → histories.worker_at l w ≡ Some x →
         length (carried_by l.output.buffer w) ≤ l.config.acks.window }
     ensures room { (config : Config) (h : History) (o w : ℕ) (l : Lane) (x : Worker SessionHistory)
-        (s : SessionHistory) (c : Load) → IsReached config h → slice_get h.lanes o ≡ Some l
+        (s : SessionHistory) (c : CarriedChunk) → IsReached config h → slice_get h.lanes o ≡ Some l
         → histories.worker_at l w ≡ Some x → x.session ≡ Some s → x.taken ≡ Some c →
         0 < room s }
     ensures live { (config : Config) (h : History) (o w : ℕ) (l : LiveLane) (x : Worker LiveSession)
-        (s : LiveSession) (c : Load) → IsReached config h → slice_get (live h).lanes o ≡ Some l
-        → lives.worker_at l w ≡ Some x → x.session ≡ Some s → x.taken ≡ Some c →
+        (s : LiveSession) (c : CarriedChunk) → IsReached config h →
+        slice_get (live h).lanes o ≡ Some l → lives.worker_at l w ≡ Some x → x.session ≡ Some s → x.taken ≡ Some c →
         0 < live_room s }
 {}
 

@@ -17,7 +17,7 @@ use Rattle.fwd_modes.specs.Frames.{frame_option, chunk_frame, IsKept, Frame, IsF
 use Rattle.fwd_modes.specs.Kinds.{fitting_text}
 use Rattle.fwd_modes.specs.Options.{option_pairs, unless_nil, chunk_under, chunk_of, is_bad_chunk, are_bad_pairs, is_bad_option, is_compression, is_compressed}
 use Rattle.fwd_modes.specs.declared.fault.InputFault.TheVariants.{BadTag, BadOption, Compressed, BadEntry}
-use Rattle.fwd_modes.specs.Requests.{Request, Heartbeat, Asks, Parts, mode_by, with_option, parts_by, parts_in, tag_of, first_fault, asked, unless_fault, of_parts, request_of}
+use Rattle.fwd_modes.specs.Requests.{Request, Heartbeat, Asks, RequestFields, mode_by, with_option, parts_by, parts_in, tag_of, first_fault, asked, unless_fault, of_parts, request_of}
 use Rattle.std.proofs.lemmas.Option.{same_Some}
 
 five_parts : (a b c d e : List ℕ)
@@ -119,7 +119,7 @@ packed_back deep entries each short =
 
 -- ---- the frame
 
-asks_if : (parts : Parts) → is_none (tag_of parts.tag) ≡ false
+asks_if : (parts : RequestFields) → is_none (tag_of parts.tag) ≡ false
     → is_bad_option parts.option ≡ false → is_compressed parts.option ≡ false
     → is_none parts.entries ≡ false → of_parts (Some parts) ≡ Asks (asked parts)
 asks_if parts a b c d =
@@ -194,7 +194,7 @@ module _ (deep : ℕ) (tag : List ℕ) (entries : List (List ℕ)) (name : List 
   frame_elements =
       ap elements_of frame_joined ∙ written_elements (Arr 3) (omega arith) tt (concat frame_members) ∙ ap Some (values_row 1 frame_members frame_values (omega arith) sizes.all)
 
-  abbrev frame_parts : Parts
+  abbrev frame_parts : RequestFields
   frame_parts = record { tag = text tag; entries = Some entries; option = Some option }
 
   frame_in_parts : parts_in deep frame_members ≡ Some frame_parts

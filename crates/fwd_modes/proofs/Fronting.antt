@@ -16,7 +16,7 @@ use Rattle.fwd_msgpack.proofs.Parts.{read_within}
 use Rattle.fwd_msgpack.proofs.Pieces.{take_further}
 use Rattle.fwd_msgpack.proofs.Sound.{front_alone}
 use Rattle.fwd_msgpack.proofs.Written.{first_value, values_row, container_value, in_a_row}
-use Rattle.fwd_modes.specs.declared.asked.Asked.{Asked}
+use Rattle.fwd_modes.specs.declared.envelope.Envelope.{Envelope}
 use Rattle.fwd_modes.specs.Entries.{BeginsKept, before, cut_at, entries_of, kept_if, listed_entries}
 use Rattle.fwd_modes.specs.Fronts.{AreKeptInARow, HoldEntries, IsKept, StandAt}
 use Rattle.fwd_modes.specs.Moved.{optional}
@@ -263,7 +263,7 @@ by_option tag entries None = refl
 by_option tag entries (Some option) = refl
 
 module _ (deep : ℕ) (bytes : List ℕ) (n at mid behind end members : ℕ) (tag : List ℕ)
-    (entries : List (List ℕ)) (option : Option Value) (asked : Asked)
+    (entries : List (List ℕ)) (option : Option Value) (asked : Envelope)
     (head : reading_of bytes ≡ read.Whole (Arr n) at)
     (first : StandAt deep bytes at mid (tag ∷ []))
     (held : HoldEntries deep bytes mid behind members entries)

@@ -19,7 +19,7 @@ use Rattle.fwd_modes.specs.Times.{is_time}
 use Rattle.fwd_modes.specs.Entries.{kept_entry, kept_if, entry_in, entry_of, before, entries_of, values_to_the_end, listed_entries, packed_entries}
 use Rattle.fwd_modes.specs.Frames.{IsKept}
 use Rattle.fwd_modes.specs.declared.fault.InputFault.{InputFault}
-use Rattle.fwd_modes.specs.Requests.{Request, Reading, Heartbeat, Asks, Parts, Mode, Message, Forward, PackedForward, mode_by, one_entry, unpacked, with_option, message, parts_by, parts_in, faults_of, first_fault, asked, unless_fault, of_parts, request_of}
+use Rattle.fwd_modes.specs.Requests.{Request, Reading, Heartbeat, Asks, RequestFields, Mode, Message, Forward, PackedForward, mode_by, one_entry, unpacked, with_option, message, parts_by, parts_in, faults_of, first_fault, asked, unless_fault, of_parts, request_of}
 use Rattle.fwd_modes.proofs.FrameLemmas.{asks_same}
 use Rattle.std.proofs.lemmas.Option.{same_Some}
 
@@ -227,12 +227,12 @@ one_kept : (o : Option (List ℕ))
 one_kept None h = tt
 one_kept (Some entry) h = (h entry refl, tt)
 
-abbrev PartsKept : Option Parts → Type 0
+abbrev PartsKept : Option RequestFields → Type 0
 PartsKept None = Unit {0}
 PartsKept (Some parts) = AreKept parts.entries
 
 with_option_entries :
-    (tag : List ℕ) (entries : Option (List (List ℕ))) (others : List (List ℕ)) (parts : Parts)
+    (tag : List ℕ) (entries : Option (List (List ℕ))) (others : List (List ℕ)) (parts : RequestFields)
     → with_option tag entries others ≡ Some parts → AreKept entries → AreKept parts.entries
 with_option_entries tag entries [] parts e kept = subst PartsKept e kept
 with_option_entries tag entries (option ∷ []) parts e kept = subst PartsKept e kept
@@ -250,7 +250,7 @@ elements_at bytes values whole e =
     let value = whole_value bytes whole in
     record { each = members_of 127 bytes values value.0 (omega arith) value.1 e; within = (elements_are bytes values whole e).1.each; short = omega (arith, elements_bounded bytes values e, value.1) }
 
-message_kept : (tag time : List ℕ) (others : List (List ℕ)) (parts : Parts)
+message_kept : (tag time : List ℕ) (others : List (List ℕ)) (parts : RequestFields)
     → Elements (tag ∷ time ∷ others) → message tag time others ≡ Some parts
     → AreKept parts.entries
 message_kept tag time [] parts is e = absurd cc
@@ -266,7 +266,7 @@ unpacked_by deep (Some packed) shallow = optional_kept (packed_entries deep pack
 
 by_mode :
     (deep : ℕ) (mode : Option Mode) (tag second : List ℕ) (others : List (List ℕ))
-    (parts : Parts)
+    (parts : RequestFields)
     → deep ≤ most_deep → Elements (tag ∷ second ∷ others)
     → parts_by deep mode tag second others ≡ Some parts → AreKept parts.entries
 by_mode deep None tag second others parts shallow is e = absurd cc
@@ -276,7 +276,7 @@ by_mode deep (Some Forward) tag second others parts shallow is e =
     (optional_kept (listed_entries second) (λ entries k. list_kept second entries (whole_from most_deep second is.within.1.0.0 (omega arith) is.within.1.0.1) k))
 by_mode deep (Some PackedForward) tag second others parts shallow is e = with_option_entries tag (unpacked deep second) others parts e (unpacked_by deep (text_of second) shallow)
 
-parts_kept : (deep : ℕ) (values : List (List ℕ)) (parts : Parts) → deep ≤ most_deep
+parts_kept : (deep : ℕ) (values : List (List ℕ)) (parts : RequestFields) → deep ≤ most_deep
     → Elements values → parts_in deep values ≡ Some parts → AreKept parts.entries
 parts_kept deep [] parts shallow is e = absurd cc
 parts_kept deep (tag ∷ []) parts shallow is e = absurd cc
@@ -287,13 +287,13 @@ asked_kept : (o : Option (List (List ℕ))) → AreKept o
 asked_kept None kept = tt
 asked_kept (Some entries) kept = kept
 
-faultless : (fault : Option InputFault) (parts : Parts) (r : Request) → AreKept parts.entries
+faultless : (fault : Option InputFault) (parts : RequestFields) (r : Request) → AreKept parts.entries
     → unless_fault fault parts ≡ Asks r → AllByRecursion (IsKept most_deep) r.entries
 faultless (Some fault) parts r kept e = absurd cc
 faultless None parts r kept e = subst (λ (q : Request). AllByRecursion (IsKept most_deep) q.entries) (asks_same (asked parts) r e) (asked_kept parts.entries kept)
 
-of_parts_kept : (o : Option Parts) (r : Request)
-    → ((parts : Parts) → o ≡ Some parts → AreKept parts.entries) → of_parts o ≡ Asks r
+of_parts_kept : (o : Option RequestFields) (r : Request)
+    → ((parts : RequestFields) → o ≡ Some parts → AreKept parts.entries) → of_parts o ≡ Asks r
     → AllByRecursion (IsKept most_deep) r.entries
 of_parts_kept None r h e = absurd cc
 of_parts_kept (Some parts) r h e = faultless (first_fault (faults_of parts)) parts r (h parts refl) e

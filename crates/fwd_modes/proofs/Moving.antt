@@ -17,9 +17,9 @@ use Rattle.fwd_msgpack.specs.Scans.{IsWhole, parts_of, parts_read, elements_in, 
 use Rattle.fwd_msgpack.specs.Scans.{is_nil}
 use Rattle.fwd_msgpack.specs.Values.{bytes_of}
 use Rattle.fwd_msgpack.specs.declared.value.Value.{Value}
-use Rattle.fwd_modes.specs.declared.asked.Asked.{Asked}
+use Rattle.fwd_modes.specs.declared.envelope.Envelope.{Envelope}
 use Rattle.fwd_modes.specs.declared.found.PackedParts.{PackedParts}
-use Rattle.fwd_modes.specs.declared.parts.Given.TheVariants.{Packed}
+use Rattle.fwd_modes.specs.declared.request_fields.EntriesForm.TheVariants.{Packed}
 use Rattle.fwd_modes.specs.Entries.{cut_at, packed_entries}
 use Rattle.fwd_modes.specs.Requests.{Mode, with_option, unpacked, parts_by, parts_in, of_parts, request_of}
 use Rattle.fwd_modes.specs.Requests.Reading.{Heartbeat as heartbeat, Asks as asks}
@@ -114,7 +114,7 @@ by_option : (deep : ℕ) (tag packed : Value) (option : Option Value)
 by_option deep tag packed None = refl
 by_option deep tag packed (Some option) = refl
 
-pub found_asks : (deep : ℕ) (bytes : List ℕ) (given : PackedParts) (asked : Asked)
+pub found_asks : (deep : ℕ) (bytes : List ℕ) (given : PackedParts) (asked : Envelope)
     (text ends : List ℕ) → is_nil bytes ≡ false → ArePacked (elements_of bytes) given
     → judged (entries_given deep (Packed given.packed)) (Ok asked)
     ≡ of_parts (Some (parts_shown deep (record { tag = given.tag; entries = Packed given.packed; option = given.option })))

@@ -26,7 +26,7 @@ pub data Reading : Type 0 where
 
 -- A request by its parts: the tag's value, the entries as they are kept if each is one, and the
 -- option's value if it is there.
-pub record Parts : Type 0 where
+pub record RequestFields : Type 0 where
   pub tag : List ℕ
   pub entries : Option (List (List ℕ))
   pub option : Option (List ℕ)
@@ -58,27 +58,27 @@ unpacked deep bytes = option_and_then (packed_entries deep) (text_of bytes)
 
 -- the rest of a request behind its entries is an option, or nothing
 abbrev pub with_option : (tag : List ℕ) → Option (List (List ℕ)) → List (List ℕ)
-    → Option Parts
+    → Option RequestFields
 with_option tag entries [] = Some (record { tag = tag; entries = entries; option = None })
 with_option tag entries (option ∷ []) =
     Some (record { tag = tag; entries = entries; option = Some option })
 with_option tag entries _ = None
 
 -- a Message has its fields behind its time
-abbrev pub message : (tag time : List ℕ) → List (List ℕ) → Option Parts
+abbrev pub message : (tag time : List ℕ) → List (List ℕ) → Option RequestFields
 message tag time (fields ∷ others) = with_option tag (one_entry (kept_if time fields)) others
 message tag time [] = None
 
 -- the parts by the mode
 abbrev pub parts_by : (deep : ℕ) → Option Mode → (tag second : List ℕ) → List (List ℕ)
-    → Option Parts
+    → Option RequestFields
 parts_by deep None tag second others = None
 parts_by deep (Some Message) tag time others = message tag time others
 parts_by deep (Some Forward) tag entries others = with_option tag (listed_entries entries) others
 parts_by deep (Some PackedForward) tag packed others = with_option tag (unpacked deep packed) others
 
 -- the parts of an array, if it has the shape of a request
-abbrev pub parts_in : (deep : ℕ) → List (List ℕ) → Option Parts
+abbrev pub parts_in : (deep : ℕ) → List (List ℕ) → Option RequestFields
 parts_in deep (tag ∷ second ∷ others) =
     parts_by deep (mode_by (head_of second)) tag second others
 parts_in deep _ = None
@@ -88,7 +88,7 @@ abbrev pub tag_of : List ℕ → Option (List ℕ)
 tag_of bytes = text_within TAG_LIMIT bytes
 
 -- what can be wrong with the parts, in the order in which it counts
-abbrev pub faults_of : Parts → List (Bool × InputFault)
+abbrev pub faults_of : RequestFields → List (Bool × InputFault)
 faults_of parts =
     (is_none (tag_of parts.tag), BadTag)
     ∷ (is_bad_option parts.option, BadOption)
@@ -101,7 +101,7 @@ abbrev pub first_fault : List (Bool × InputFault) → Option InputFault
 first_fault faults = option_map (λ f. f.1) (find (λ f. f.0) faults)
 
 -- what parts without a fault ask for
-abbrev pub asked : Parts → Request
+abbrev pub asked : RequestFields → Request
 asked parts = record {
   tag = unwrap_or (text_of parts.tag) [];
   entries = unwrap_or parts.entries [];
@@ -109,12 +109,12 @@ asked parts = record {
 }
 
 -- the fault, or what the parts ask for where there is none
-abbrev pub unless_fault : Option InputFault → Parts → Reading
+abbrev pub unless_fault : Option InputFault → RequestFields → Reading
 unless_fault (Some fault) parts = Fails fault
 unless_fault None parts = Asks (asked parts)
 
 -- the shape comes before all that can be wrong with the parts
-abbrev pub of_parts : Option Parts → Reading
+abbrev pub of_parts : Option RequestFields → Reading
 of_parts None = Fails BadShape
 of_parts (Some parts) = unless_fault (first_fault (faults_of parts)) parts
 

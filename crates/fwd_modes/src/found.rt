@@ -7,7 +7,7 @@ ghost use Rattle.fwd_msgpack.specs.Scans.{elements_of, text_of};
 ghost use Rattle.fwd_msgpack.specs.Values.{bytes_of};
 ghost use Rattle.fwd_modes.specs.Moved.{ArePacked, IsFound, optional};
 
-use crate::asked::Asked;
+use crate::envelope::Envelope;
 use crate::kept::copied;
 use crate::lists::ends_of_kept;
 use crate::request::judge;
@@ -61,7 +61,7 @@ fn packed_parts(value: Value<'_>) -> Option<PackedParts<'_>>
 }
 
 /// The tag's bytes, and the chunk's behind them.
-fn names_of(alloc: Global, asked: Asked<'_>) -> Result<Vec<u8>, AllocError>
+fn names_of(alloc: Global, asked: Envelope<'_>) -> Result<Vec<u8>, AllocError>
     ensures { IfOk result (λ names.
         names.items ≡ asked.entry.tag.now ++ unwrap_or (option_copied asked.entry.chunk) []) }
 {

@@ -3,11 +3,11 @@
 #![tactic(auto)]
 
 mod ack;
-mod asked;
 mod batch;
 mod contents;
 mod entries;
 mod entry;
+mod envelope;
 mod fault;
 mod found;
 mod frame;
@@ -20,8 +20,8 @@ mod limits;
 mod lists;
 mod options;
 mod origin;
-mod parts;
 mod request;
+mod request_fields;
 mod taking;
 mod time;
 

@@ -13,7 +13,7 @@ use fwd_msgpack::Value;
 
 /// What an option says.
 #[derive(Clone, Copy)]
-pub(crate) struct Said<'a> {
+pub(crate) struct OptionFields<'a> {
     /// The value that the acknowledgement is to carry, as its own bytes.
     pub(crate) chunk: Option<&'a [u8]>,
     /// Whether a compression is named.
@@ -22,7 +22,7 @@ pub(crate) struct Said<'a> {
 }
 
 /// What an option says that has no pairs.
-const NOTHING: Said<'static> = Said {
+const NOTHING: OptionFields<'static> = OptionFields {
     chunk: None,
     compressed: false,
 };
@@ -60,7 +60,7 @@ fn read_chunk<'a>(value: Option<Value<'a>>) -> Result<Option<&'a [u8]>, InputFau
 
 /// What an option says, which is a map or nil, or is left out. Of a repeated key the last value
 /// counts, its kind too: a `chunk` of a wrong kind before a good one is no fault.
-pub(crate) fn read_option<'a>(option: Option<Value<'a>>) -> Result<Said<'a>, InputFault>
+pub(crate) fn read_option<'a>(option: Option<Value<'a>>) -> Result<OptionFields<'a>, InputFault>
     ensures good { let given = option_map bytes_of option.entry in
         IfOk result (λ said. is_bad_option given ≡ false) }
     ensures chunk { let given = option_map bytes_of option.entry in
@@ -81,7 +81,7 @@ pub(crate) fn read_option<'a>(option: Option<Value<'a>>) -> Result<Said<'a>, Inp
         return Err(InputFault::BadOption);
     };
     let (chunk, compression) = pairs.last_under_each(b"chunk", b"compressed");
-    Ok(Said {
+    Ok(OptionFields {
         chunk: read_chunk(chunk)?,
         compressed: is_compression(compression),
     })

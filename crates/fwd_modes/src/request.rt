@@ -8,16 +8,16 @@ ghost use Rattle.fwd_modes.specs.Requests.Reading.{Heartbeat as heartbeat, Fails
 ghost use Rattle.fwd_modes.specs.declared.fault.InputFault.{InputFault};
 ghost use Rattle.fwd_modes.specs.Readings.{shown, kept as kept_of, entries_given, judged};
 
-use crate::asked::Asked;
 use crate::batch::Batch;
 use crate::entry::Entry;
+use crate::envelope::Envelope;
 use crate::fault::InputFault;
 use crate::kept::KeptEntries;
 use crate::kinds::text_within;
 use crate::limits::TAG_LIMIT;
 use crate::lists::{read_list, read_packed};
 use crate::options::read_option;
-use crate::parts::{Given, Parts};
+use crate::request_fields::{EntriesForm, RequestFields};
 use fwd_msgpack::{Limits, Value};
 use std::alloc::{AllocError, Global};
 
@@ -33,7 +33,10 @@ pub enum Reading {
 }
 
 /// What stands beside the entries, or the first fault there in the order tag, option, compression.
-pub(crate) fn judge<'a>(tag: Value<'a>, option: Option<Value<'a>>) -> Result<Asked<'a>, InputFault>
+pub(crate) fn judge<'a>(
+    tag: Value<'a>,
+    option: Option<Value<'a>>,
+) -> Result<Envelope<'a>, InputFault>
     ensures { (entries : Option (List (List ℕ)))
         → judged entries result
         ≡ of_parts (Some (record {
@@ -49,7 +52,7 @@ pub(crate) fn judge<'a>(tag: Value<'a>, option: Option<Value<'a>>) -> Result<Ask
     if said.compressed {
         return Err(InputFault::Compressed);
     }
-    Ok(Asked {
+    Ok(Envelope {
         tag,
         chunk: said.chunk,
     })
@@ -74,7 +77,7 @@ pub(crate) fn read_one(
 /// The entries, if each is one, and room behind them for so many bytes more.
 fn read_entries(
     alloc: Global,
-    given: Given<'_>,
+    given: EntriesForm<'_>,
     depth: u8,
     more: usize,
 ) -> Result<Option<KeptEntries>, AllocError>
@@ -82,9 +85,9 @@ fn read_entries(
     ensures { IfOk result (λ kept. kept ≡ entries_given depth given.entry) }
 {
     match given {
-        Given::One(entry) => read_one(alloc, entry, more),
-        Given::List(list) => read_list(alloc, list, more),
-        Given::Packed(value) => match value.text() {
+        EntriesForm::One(entry) => read_one(alloc, entry, more),
+        EntriesForm::List(list) => read_list(alloc, list, more),
+        EntriesForm::Packed(value) => match value.text() {
             Some(packed) => read_packed(alloc, packed, depth, more),
             None => Ok(None),
         },
@@ -94,8 +97,8 @@ fn read_entries(
 /// A request of these entries, or the fault that one of them is none.
 fn read_asked(
     alloc: Global,
-    given: Given<'_>,
-    asked: Asked<'_>,
+    given: EntriesForm<'_>,
+    asked: Envelope<'_>,
     depth: u8,
 ) -> Result<Reading, AllocError>
     requires { depth ≤ 128 }
@@ -125,7 +128,7 @@ pub fn read_request(alloc: Global, value: Value<'_>, limits: Limits) -> Result<R
     if value.is_nil() {
         return Ok(Reading::Heartbeat);
     }
-    let Some(parts) = Parts::of(value) else {
+    let Some(parts) = RequestFields::of(value) else {
         return Ok(Reading::Fails(InputFault::BadShape));
     };
     match judge(parts.tag, parts.option) {

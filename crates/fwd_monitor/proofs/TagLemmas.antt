@@ -7,8 +7,8 @@ use Rattle.std.proofs.lemmas.Grind.{flat_map-append}
 use Rattle.std.proofs.lemmas.List.{append-nil, drop-map, drop_all, length-drop, length-map, take-map}
 use Rattle.std.proofs.lemmas.List.Folds.{flat_map-map}
 use Rattle.std.proofs.lemmas.List.Sums.{sum_by-append, sum_by-cons}
-use Rattle.fwd_counts.specs.declared.report.Report.{Report}
-use Rattle.fwd_counts.specs.declared.tag_count.TagCount.{TagCount}
+use Rattle.fwd_base.specs.declared.report.Report.{Report}
+use Rattle.fwd_base.specs.declared.tag_count.TagCount.{TagCount}
 use Rattle.fwd_monitor.specs.declared.limits.TheConstants.{MAX_TAGS}
 use Rattle.fwd_monitor.specs.declared.measure.TagMeasure.{TagMeasure}
 use Rattle.fwd_monitor.specs.Metrics.{all_tags, left_out_sample, of_output, sample_of, tag_sample, tags_of}

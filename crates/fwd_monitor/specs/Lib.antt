@@ -11,6 +11,6 @@ pub mod Samples
 pub mod Statuses
 pub mod Tallies
 -- Of the crate below, for those above.
-pub use Rattle.fwd_counts.specs.declared.counts.Counts
-pub use Rattle.fwd_counts.specs.declared.report.Report
-pub use Rattle.fwd_counts.specs.declared.tag_count.TagCount
+pub use Rattle.fwd_base.specs.declared.counts.Counts
+pub use Rattle.fwd_base.specs.declared.report.Report
+pub use Rattle.fwd_base.specs.declared.tag_count.TagCount

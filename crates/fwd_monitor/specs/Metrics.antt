@@ -22,9 +22,9 @@ use Rattle.std.specs.List.{count_by, enumerate_from, flat_map, list_any}
 use Rattle.std.specs.Fmt.{decimal}
 use Rattle.std.specs.Str.{is_utf8}
 use Rattle.hex.specs.Hex.{encode_lower}
-use Rattle.fwd_counts.specs.declared.counts.Counts.{Counts}
-use Rattle.fwd_counts.specs.declared.report.Report.{Report}
-use Rattle.fwd_counts.specs.declared.tag_count.TagCount.{TagCount}
+use Rattle.fwd_base.specs.declared.counts.Counts.{Counts}
+use Rattle.fwd_base.specs.declared.report.Report.{Report}
+use Rattle.fwd_base.specs.declared.tag_count.TagCount.{TagCount}
 use Rattle.fwd_monitor.specs.declared.figures.Figures.{Figures}
 use Rattle.fwd_monitor.specs.declared.figures.OutputFigures.{OutputFigures}
 use Rattle.fwd_monitor.specs.declared.limits.TheConstants.{MAX_TAGS}

@@ -4,9 +4,9 @@ use Rattle.std.specs.List.{enumerate_from, flat_map, join_with_byte}
 use Rattle.std.specs.Fmt.{decimal}
 use Rattle.httparse.specs.Ascii.{line_feed, space}
 use Rattle.hex.specs.Hex.{encode_lower}
-use Rattle.fwd_counts.specs.declared.counts.Counts.{Counts}
-use Rattle.fwd_counts.specs.declared.report.Report.{Report}
-use Rattle.fwd_counts.specs.declared.tag_count.TagCount.{TagCount}
+use Rattle.fwd_base.specs.declared.counts.Counts.{Counts}
+use Rattle.fwd_base.specs.declared.report.Report.{Report}
+use Rattle.fwd_base.specs.declared.tag_count.TagCount.{TagCount}
 
 -- a line: these words, with one space between each two, and a line feed
 abbrev pub line_text : List (List ℕ) → List ℕ

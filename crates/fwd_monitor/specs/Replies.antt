@@ -15,7 +15,7 @@ use Rattle.std.specs.Prelude.{
 use Rattle.std.specs.Fmt.{decimal}
 use Rattle.httparse.specs.Ascii.{crlf_bytes}
 use Rattle.httparse.specs.Grammar.{RequestHead, ReadsRequest, NeverHasRequest, EndsInTarget}
-use Rattle.fwd_counts.specs.declared.report.Report.{Report}
+use Rattle.fwd_base.specs.declared.report.Report.{Report}
 use Rattle.fwd_monitor.specs.declared.figures.Figures.{Figures}
 use Rattle.fwd_monitor.specs.declared.figures.OutputFigures.{OutputFigures}
 use Rattle.fwd_monitor.specs.declared.limits.TheConstants.{MAX_HEADERS}

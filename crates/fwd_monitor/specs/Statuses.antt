@@ -1,7 +1,7 @@
 -- The status of a reply, and its bytes.
 use Rattle.std.specs.Prelude.{ℕ, Bool, true, false, List, Option, Some, None, IsTrue, IsFalse}
 use Rattle.httparse.specs.Grammar.{RequestHead}
-use Rattle.fwd_counts.specs.declared.report.Report.{Report}
+use Rattle.fwd_base.specs.declared.report.Report.{Report}
 use Rattle.fwd_monitor.specs.declared.status.Status.{Status}
 use Rattle.fwd_monitor.specs.declared.status.Status.TheVariants.{
   Found,

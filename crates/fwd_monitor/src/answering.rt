@@ -12,7 +12,7 @@ use crate::pages::page;
 use crate::reply::Reply;
 use crate::status::Status;
 use crate::tally::RelayTally;
-use fwd_counts::Report;
+use fwd_base::Report;
 use std::alloc::{AllocError, Global};
 
 /// What a monitor that has sent the bytes of `head` so far is told. A whole request head (RFC 9112,

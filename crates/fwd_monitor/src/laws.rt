@@ -2,7 +2,7 @@
 
 ghost use Rattle.std.specs.Prelude.{◌≡◌, ◌++◌, ℕ, List};
 ghost use Rattle.httparse.specs.Grammar.{ReadsRequest, RequestHead};
-ghost use Rattle.fwd_counts.specs.declared.report.Report.{Report};
+ghost use Rattle.fwd_base.specs.declared.report.Report.{Report};
 ghost use Rattle.fwd_monitor.specs.Replies.{IsDueText};
 ghost use Rattle.fwd_monitor.specs.Requests.{BeginsWith, HasManyLines, IsBad, IsDue, MustWait};
 

@@ -20,7 +20,7 @@ ghost use Rattle.fwd_monitor.specs.Tallies.{
 };
 
 use crate::figures::OutputFigures;
-use fwd_counts::{Counts, TagCount};
+use fwd_base::{Counts, TagCount};
 
 /// What the metrics page says of each output.
 #[derive(Clone, Copy)]

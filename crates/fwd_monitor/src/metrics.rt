@@ -24,7 +24,7 @@ use crate::measure::{Measure, OutputFigure, TagMeasure};
 use crate::samples::{push_gauge, push_head, push_sample};
 use crate::tallies::{push_output_tally, push_relay_tally};
 use crate::tally::RelayTally;
-use fwd_counts::{Report, TagCount};
+use fwd_base::{Report, TagCount};
 use std::alloc::{AllocError, Global};
 
 /// The metrics page in Prometheus' text format 0.0.4: what is known of the relay itself and what it

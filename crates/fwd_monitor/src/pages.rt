@@ -2,7 +2,7 @@ ghost use Rattle.std.specs.Prelude.{◌≡◌, ◌++◌, IfOk, OnOk};
 ghost use Rattle.std.specs.String.{string_bytes};
 ghost use Rattle.fwd_monitor.specs.Page.{hex_text, line_of, page_of, report_lines, tag_line_of};
 
-use fwd_counts::{Counts, Report, TagCount};
+use fwd_base::{Counts, Report, TagCount};
 use std::alloc::{AllocError, Global};
 
 /// A line for each output, by rising number from 0: its number, and its counts in decimal. Behind

@@ -5,9 +5,9 @@ use Rattle.std.proofs.lemmas.Bool.{ltb-true}
 use Rattle.fwd_msgpack.specs.declared.head.Head.TheVariants.{Int, Str, Arr, Map}
 use Rattle.fwd_msgpack.specs.declared.head.HeadRead.TheVariants as read
 use Rattle.fwd_msgpack.specs.declared.limits.Limits.{Limits}
-use Rattle.fwd_msgpack.specs.declared.stage.Stage.{Stage}
-use Rattle.fwd_msgpack.specs.declared.stage.Stage.TheVariants as stages
-use Rattle.fwd_msgpack.specs.Stages.{state_shown, IsStage, in_head, in_item}
+use Rattle.fwd_msgpack.specs.declared.scan_state.ScanState.{ScanState}
+use Rattle.fwd_msgpack.specs.declared.scan_state.ScanState.TheVariants as stages
+use Rattle.fwd_msgpack.specs.ScanStates.{state_shown, IsScanState, in_head, in_item}
 use Rattle.fwd_msgpack.specs.Extents.{scan_behind}
 use Rattle.fwd_msgpack.specs.Scanners.{Standing, onward}
 use Rattle.fwd_msgpack.specs.Scans.{State}
@@ -74,19 +74,19 @@ torn_short (first ∷ rest) h =
 -- ---- the stages of a scanner
 
 -- in a head, by its stage
-pub head_stage : (limit used owed : ℕ) (front : List ℕ) (stage : Stage) → stage ≡ stages.Head
-    → IsStage limit used owed front stage
+pub head_stage : (limit used owed : ℕ) (front : List ℕ) (stage : ScanState) → stage ≡ stages.Head
+    → IsScanState limit used owed front stage
     → (used + owed ≤ limit) × (reading_of front ≡ read.Short)
-head_stage limit used owed front stage e is = subst (λ (s : Stage). IsStage limit used owed front s) e is
+head_stage limit used owed front stage e is = subst (λ (s : ScanState). IsScanState limit used owed front s) e is
 
 -- in a payload, by its stage
-pub payload_stage : (limit used owed : ℕ) (front : List ℕ) (stage : Stage) (left : ℕ)
-    → stage ≡ stages.Payload left → IsStage limit used owed front stage
+pub payload_stage : (limit used owed : ℕ) (front : List ℕ) (stage : ScanState) (left : ℕ)
+    → stage ≡ stages.Payload left → IsScanState limit used owed front stage
     → (0 < left) × (used + left + owed ≤ limit) × (front ≡ [])
-payload_stage limit used owed front stage left e is = subst (λ (s : Stage). IsStage limit used owed front s) e is
+payload_stage limit used owed front stage left e is = subst (λ (s : ScanState). IsScanState limit used owed front s) e is
 
 -- within a head, by its state
-pub in_head_stage : (used : ℕ) (stack front : List ℕ) (stage : Stage)
+pub in_head_stage : (used : ℕ) (stack front : List ℕ) (stage : ScanState)
     → in_head (state_shown used stack front stage) ≡ true → stage ≡ stages.Head
 in_head_stage used stack front stages.Head e = refl
 in_head_stage used stack front (stages.Payload left) e = absurd cc
@@ -94,16 +94,16 @@ in_head_stage used stack front stages.Ended e = absurd cc
 in_head_stage used stack front (stages.Failed fault) e = absurd cc
 
 -- no bytes of a head have come where none is cut off
-pub no_front : (used : ℕ) (stack front : List ℕ) (stage : Stage) → stage ≡ stages.Head
+pub no_front : (used : ℕ) (stack front : List ℕ) (stage : ScanState) → stage ≡ stages.Head
     → in_item (state_shown used stack front stage) ≡ false → front ≡ []
-no_front used stack front stage e none = by_front front (ap (λ (s : Stage). in_item (state_shown used stack front s)) (sym e) ∙ none)
+no_front used stack front stage e none = by_front front (ap (λ (s : ScanState). in_item (state_shown used stack front s)) (sym e) ∙ none)
   where
     by_front : (xs : List ℕ) → in_item (state_shown used stack xs stages.Head) ≡ false → xs ≡ []
     by_front [] h = refl
     by_front (b ∷ xs) h = absurd cc
 
 -- what has ended or failed stays so
-pub stays : (limit deep used : ℕ) (stack front : List ℕ) (stage : Stage) (bytes : List ℕ)
+pub stays : (limit deep used : ℕ) (stack front : List ℕ) (stage : ScanState) (bytes : List ℕ)
     → (stage ≡ stages.Head → ⊥)
     → in_item (state_shown used stack front stage) ≡ false
     → state_shown used stack front stage
@@ -114,7 +114,7 @@ stays limit deep used stack front stages.Ended bytes other none = sym (scanned-E
 stays limit deep used stack front (stages.Failed fault) bytes other none = sym (scanned-Failed limit deep fault bytes)
 
 -- where no item is cut off, the piece is scanned as if the value began with it
-pub piece_scanned : (limits : Limits) (used : ℕ) (stack front bytes : List ℕ) (stage : Stage)
+pub piece_scanned : (limits : Limits) (used : ℕ) (stack front bytes : List ℕ) (stage : ScanState)
     (old : Standing) (state : State)
     → stage ≡ stages.Head → at limits (state_shown used stack front stage) ≡ old
     → in_item old.state ≡ false → used ≤ limits.bytes
@@ -124,7 +124,7 @@ piece_scanned limits used stack front bytes stage old state head old_is none le 
     let shut = ap (λ (s : Standing). in_item s.state) old_is ∙ none in
     let bare = no_front used stack front stage head shut in
     stands limits _ _ (goes_on_to limits.bytes limits.depth used stack front bytes state le bare e
-    ∙ ap (λ (s : Stage). scanned limits.bytes limits.depth (state_shown used stack front s) bytes) (sym head))
+    ∙ ap (λ (s : ScanState). scanned limits.bytes limits.depth (state_shown used stack front s) bytes) (sym head))
     ∙ ap (λ (s : Standing). onward s bytes) old_is
 
 -- what is not empty has a byte

@@ -14,15 +14,15 @@ ghost use Rattle.fwd_msgpack.specs.Scanners.{
   heard,
   EndsWithin,
 };
-ghost use Rattle.fwd_msgpack.specs.Stages.{in_head, in_item};
+ghost use Rattle.fwd_msgpack.specs.ScanStates.{in_head, in_item};
 
 use crate::fault::ScanFault;
 use crate::front::Front;
 use crate::head::HeadRead;
 use crate::limits::Limits;
 use crate::scan::{Stop, scan_items};
+use crate::scan_state::{ScanState, behind_head, behind_value};
 use crate::stack::Stack;
-use crate::stage::{Stage, behind_head, behind_value};
 use crate::stream::Next;
 use crate::value::{Cut, Value};
 use std::marker::Model;
@@ -50,13 +50,13 @@ pub struct Scanner {
     used: usize,
     /// The bytes of a head that is cut off.
     front: Front,
-    stage: Stage,
+    stage: ScanState,
 }
 
 impl Model for Scanner {
     ghost use Rattle.std.specs.Prelude.{◌<◌, ◌^◌, sum};
     ghost use Rattle.fwd_msgpack.specs.Scanners.{Standing};
-    ghost use Rattle.fwd_msgpack.specs.Stages.{state_shown, IsStage};
+    ghost use Rattle.fwd_msgpack.specs.ScanStates.{state_shown, IsScanState};
 
     ghost Value = { Standing };
 
@@ -66,7 +66,7 @@ impl Model for Scanner {
     } };
 
     ghost invariant = { λ s. (s.limits.bytes < 2 ^ 32)
-        × IsStage s.limits.bytes s.used (sum s.stack) s.front s.stage };
+        × IsScanState s.limits.bytes s.used (sum s.stack) s.front s.stage };
 }
 
 impl Scanner {
@@ -79,7 +79,7 @@ impl Scanner {
             stack: Stack::new(),
             used: 0,
             front: Front::new(),
-            stage: Stage::Head,
+            stage: ScanState::Head,
         }
     }
 
@@ -90,7 +90,7 @@ impl Scanner {
         self.stack.clear();
         self.used = 0;
         self.front.clear();
-        self.stage = Stage::Head;
+        self.stage = ScanState::Head;
     }
 
     /// Scans the next bytes of the value (MessagePack specification, "Formats"). Behind its end the
@@ -177,9 +177,9 @@ impl Scanner {
         ensures { result ≡ taken self.now.state }
     {
         match self.stage {
-            Stage::Head => self.used + self.front.len(),
-            Stage::Payload(_) | Stage::Ended => self.used,
-            Stage::Failed(_) => 0,
+            ScanState::Head => self.used + self.front.len(),
+            ScanState::Payload(_) | ScanState::Ended => self.used,
+            ScanState::Failed(_) => 0,
         }
     }
 
@@ -190,9 +190,9 @@ impl Scanner {
         ensures { verdict_of self.now.state ≡ heard before result }
     {
         match self.stage {
-            Stage::Head | Stage::Payload(_) => Fed::More,
-            Stage::Ended => Fed::End(self.used - before),
-            Stage::Failed(fault) => Fed::Bad(fault),
+            ScanState::Head | ScanState::Payload(_) => Fed::More,
+            ScanState::Ended => Fed::End(self.used - before),
+            ScanState::Failed(fault) => Fed::Bad(fault),
         }
     }
 
@@ -227,7 +227,7 @@ impl Scanner {
     fn is_in_head(&self) -> bool
         ensures { result ≡ in_head self.now.state }
     {
-        matches!(self.stage, Stage::Head) && self.front.len() > 0
+        matches!(self.stage, ScanState::Head) && self.front.len() > 0
     }
 
     /// Takes one byte more of the head that is cut off.
@@ -243,7 +243,7 @@ impl Scanner {
                 self.stage = behind_head(head, self.used, &mut self.stack, self.limits);
             }
             HeadRead::Short => {}
-            HeadRead::Reserved => self.stage = Stage::Failed(ScanFault::Reserved),
+            HeadRead::Reserved => self.stage = ScanState::Failed(ScanFault::Reserved),
         }
     }
 
@@ -255,13 +255,13 @@ impl Scanner {
         ensures state { self.new ≡ onward self.old (take result piece.now) }
         ensures done { result < length piece.now → in_item self.new.state ≡ false }
     {
-        let Stage::Payload(left) = self.stage else {
+        let ScanState::Payload(left) = self.stage else {
             return 0;
         };
         let left = left as usize;
         if piece.len() < left {
             self.used += piece.len();
-            self.stage = Stage::Payload((left - piece.len()) as u32);
+            self.stage = ScanState::Payload((left - piece.len()) as u32);
             return piece.len();
         }
         self.used += left;
@@ -278,7 +278,7 @@ impl Scanner {
         if bytes.is_empty() {
             return;
         }
-        let Stage::Head = self.stage else {
+        let ScanState::Head = self.stage else {
             return;
         };
         let limits = Limits {
@@ -288,7 +288,7 @@ impl Scanner {
         match scan_items(bytes, &mut self.stack, limits) {
             Stop::Whole(used) => {
                 self.used += used;
-                self.stage = Stage::Ended;
+                self.stage = ScanState::Ended;
             }
             Stop::InHead(at) => {
                 self.used += at;
@@ -296,9 +296,9 @@ impl Scanner {
             }
             Stop::InPayload(left) => {
                 self.used += bytes.len();
-                self.stage = Stage::Payload(left);
+                self.stage = ScanState::Payload(left);
             }
-            Stop::Bad(fault) => self.stage = Stage::Failed(fault),
+            Stop::Bad(fault) => self.stage = ScanState::Failed(fault),
         }
     }
 }

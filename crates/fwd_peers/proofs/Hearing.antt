@@ -1,13 +1,13 @@
 -- The bytes that come.
 use Rattle.std.proofs.Common.{◌≡◌, false, List, ℕ, Bool, [], ◌∷◌, ap, sym, subst, ◌∙◌, arith}
-use Rattle.fwd_peers.specs.declared.stage.Stage.{Stage}
+use Rattle.fwd_peers.specs.declared.peer_state.PeerState.{PeerState}
 use Rattle.fwd_peers.specs.declared.stream.Visit.{Visit}
-use Rattle.fwd_peers.specs.Streams.{Call, IsReading, is_full}
+use Rattle.fwd_peers.specs.Streams.{StreamCall, IsReading, is_full}
 use Rattle.fwd_peers.specs.Peers.{PeerShown, TakesIn, heard_at, stage_visited, Reads}
 
 -- what is taken in depends only on the live part, on how far the connection has come, and on why it
 -- was ended
-pub taken_by : (s r t u : PeerShown) (bytes : List ℕ) (come : Stage)
+pub taken_by : (s r t u : PeerShown) (bytes : List ℕ) (come : PeerState)
     → r.live ≡ s.live → r.stage ≡ s.stage → r.why ≡ s.why → u.live ≡ t.live → u.why ≡ t.why
     → TakesIn r bytes u.live come u.why → TakesIn s bytes t.live come t.why
 taken_by s r t u [] come same here reason there ended taken =
@@ -25,7 +25,7 @@ reads now to_end most s r u t bytes end more visit given taken others visited fu
   bytes = bytes;
   end = end;
   visit =
-      let P : List Call → Type 0 = λ calls. IsReading to_end most s.reads bytes end calls in
+      let P : List StreamCall → Type 0 = λ calls. IsReading to_end most s.reads bytes end calls in
       subst P (sym (ap (λ p. p.reads) others) ∙ sym (ap (λ p. p.reads) visited)) visit;
   heard = (
     u.stage,

@@ -11,16 +11,16 @@ use Rattle.std.specs.declared.io.ErrorKind.TheVariants as kind
 use Rattle.std.specs.declared.io.Error.{Error}
 use Rattle.fwd_peers.specs.declared.stream.Visit.{Visit}
 use Rattle.fwd_peers.specs.declared.stream.Visit.TheVariants as visit
-use Rattle.fwd_peers.specs.Streams.{Call, IsCall, IsVisit, StopsShort, after_call, after_error, call_of, ends_after, end_of, front_of, moved_by, moved_in}
+use Rattle.fwd_peers.specs.Streams.{StreamCall, IsCall, IsVisit, StopsShort, after_call, after_error, call_of, ends_after, end_of, front_of, moved_by, moved_in}
 
 -- the visit goes on after these calls: each of them moved bytes, or is made again
-abbrev pub GoesOn : List Call → Type 0
+abbrev pub GoesOn : List StreamCall → Type 0
 GoesOn [] = Unit {0}
 GoesOn (call ∷ calls) = ((count : ℕ) × (after_call call.answer ≡ Ok count)) × GoesOn calls
 
 -- it did so from these calls on, so many at least, and they moved these bytes in all
-pub record IsUnderWay (made : ℕ) (before : List Call) (bytes : List ℕ) (after : List Call) : Type 0 where
-  pub calls : List Call
+pub record IsUnderWay (made : ℕ) (before : List StreamCall) (bytes : List ℕ) (after : List StreamCall) : Type 0 where
+  pub calls : List StreamCall
   pub told : after ≡ before ++ calls
   pub moved : bytes ≡ moved_in calls
   pub going : GoesOn calls
@@ -37,23 +37,23 @@ never_full (Ok count) same = grind (arith, nat_tests)
 never_full (Err error) same = never_full_after (error_kind error) same
 
 -- one call more that moved bytes lets it go on
-goes_further : (calls : List Call) (call : Call) (count : ℕ) → GoesOn calls → after_call call.answer ≡ Ok count → GoesOn (calls ++ call ∷ [])
+goes_further : (calls : List StreamCall) (call : StreamCall) (count : ℕ) → GoesOn calls → after_call call.answer ≡ Ok count → GoesOn (calls ++ call ∷ [])
 goes_further [] call count going came = ((count, came), tt)
 goes_further (c ∷ calls) call count going came = (going.0, goes_further calls call count going.1 came)
 
 -- it ends as the first call that ends it has it
-ends_there : (calls : List Call) → GoesOn calls → (more : List Call) → end_of (calls ++ more) ≡ end_of more
+ends_there : (calls : List StreamCall) → GoesOn calls → (more : List StreamCall) → end_of (calls ++ more) ≡ end_of more
 ends_there [] going more = refl
 ends_there (c ∷ calls) going more = ap (λ r. ends_after r (end_of (calls ++ more))) going.0.1 ∙ ends_there calls going.1 more
 
 -- the calls with one more
-told_more : (before middle after calls : List Call) (call : Call) → middle ≡ before ++ calls
+told_more : (before middle after calls : List StreamCall) (call : StreamCall) → middle ≡ before ++ calls
     → after ≡ middle ++ call ∷ [] → after ≡ before ++ (calls ++ call ∷ [])
 told_more before middle after calls call there further =
     further ∙ ap (λ l. l ++ call ∷ []) there ∙ append_assoc before calls (call ∷ [])
 
 -- the bytes that they moved
-moved_more : (calls : List Call) (room : List ℕ) (answer : Result ℕ Error) (what : Result ℕ Visit)
+moved_more : (calls : List StreamCall) (room : List ℕ) (answer : Result ℕ Error) (what : Result ℕ Visit)
     → what ≡ after_call answer
     → moved_in calls ++ front_of room what ≡ moved_in (calls ++ call_of room answer ∷ [])
 moved_more calls room answer what came =
@@ -62,11 +62,11 @@ moved_more calls room answer what came =
     ∙ sym (flat_map-append moved_by calls (call_of room answer ∷ []))
 
 -- no call was made yet
-pub none_made : (before : List Call) → IsUnderWay 0 before [] before
+pub none_made : (before : List StreamCall) → IsUnderWay 0 before [] before
 none_made before = record { calls = []; told = sym (append-nil before); moved = refl; going = tt; enough = omega arith }
 
 -- one call more moved bytes
-pub one_more : (made : ℕ) (before middle after : List Call) (bytes room bytes' : List ℕ) (count : ℕ)
+pub one_more : (made : ℕ) (before middle after : List StreamCall) (bytes room bytes' : List ℕ) (count : ℕ)
     → IsUnderWay made before bytes middle → IsCall middle room (Ok count) after
     → bytes' ≡ bytes ++ take count room → IsUnderWay (made + 1) before bytes' after
 one_more made before middle after bytes room bytes' count way call all = record {
@@ -84,7 +84,7 @@ moved_count room answer count came within =
     ap (λ r. length (front_of room r)) (sym came) ∙ length-take-le count room within
 
 -- one call more moved bytes, and did not fill its room
-pub stops_short : (made : ℕ) (before middle after : List Call) (bytes room bytes' : List ℕ) (count : ℕ)
+pub stops_short : (made : ℕ) (before middle after : List StreamCall) (bytes room bytes' : List ℕ) (count : ℕ)
     → IsUnderWay made before bytes middle → IsCall middle room (Ok count) after
     → bytes' ≡ bytes ++ take count room → 0 < count → count < length room
     → StopsShort before bytes' after
@@ -103,7 +103,7 @@ stops_short made before middle after bytes room bytes' count way call all some s
     }
 
 -- one call more ended the visit
-pub ends_so : (most made : ℕ) (before middle after : List Call) (bytes bytes' room : List ℕ) (end : Visit)
+pub ends_so : (most made : ℕ) (before middle after : List StreamCall) (bytes bytes' room : List ℕ) (end : Visit)
     → IsUnderWay made before bytes middle → IsCall middle room (Err end) after → bytes' ≡ bytes
     → IsVisit most before bytes' end after
 ends_so most made before middle after bytes bytes' room end way call same = record {
@@ -115,7 +115,7 @@ ends_so most made before middle after bytes bytes' room end way call same = reco
 }
 
 -- no call ended it
-pub is_open : (most made : ℕ) (before after : List Call) (bytes : List ℕ)
+pub is_open : (most made : ℕ) (before after : List StreamCall) (bytes : List ℕ)
     → IsUnderWay made before bytes after → (length bytes ≡ most) ⊎ (most ≤ made)
     → IsVisit most before bytes visit.Full after
 is_open most made before after bytes way enough = record {

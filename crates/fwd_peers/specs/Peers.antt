@@ -18,32 +18,32 @@ use Rattle.fwd_source.specs.Live.{
 }
 use Rattle.fwd_book.specs.Receipts.{Receipt}
 use Rattle.fwd_workers.specs.declared.refusal.AdmitRefusal.TheVariants as refusal
-use Rattle.fwd_peers.specs.declared.source_end.PeerEnd.{PeerEnd}
-use Rattle.fwd_peers.specs.declared.source_end.PeerEnd.TheVariants as peer_end
-use Rattle.fwd_peers.specs.declared.source_end.SourceEnd.{SourceEnd}
-use Rattle.fwd_peers.specs.declared.source_end.SourceEnd.TheVariants as source_end
-use Rattle.fwd_peers.specs.declared.stage.Stage.{Stage}
-use Rattle.fwd_peers.specs.declared.stage.Stage.TheVariants as stage
+use Rattle.fwd_peers.specs.declared.close_reason.PeerEnd.{PeerEnd}
+use Rattle.fwd_peers.specs.declared.close_reason.PeerEnd.TheVariants as peer_end
+use Rattle.fwd_peers.specs.declared.close_reason.CloseReason.{CloseReason}
+use Rattle.fwd_peers.specs.declared.close_reason.CloseReason.TheVariants as source_end
+use Rattle.fwd_peers.specs.declared.peer_state.PeerState.{PeerState}
+use Rattle.fwd_peers.specs.declared.peer_state.PeerState.TheVariants as stage
 use Rattle.fwd_peers.specs.declared.stream.Visit.{Visit}
 use Rattle.fwd_peers.specs.declared.stream.Visit.TheVariants as visit
-use Rattle.fwd_peers.specs.Streams.{Call, IsReading, IsVisit, is_full}
+use Rattle.fwd_peers.specs.Streams.{StreamCall, IsReading, IsVisit, is_full}
 
 -- what is seen of a source's connection: its id; how far it has come; why the relay ended it, until
 -- that was told; whether it was left unread when it was visited last, since too many bytes wait to
 -- be sent to it; its live part; how many bytes of acknowledgements are promised, and for how many
 -- bytes there is room; what its stream answered to all reads, and to all writes; when it sent
--- something last, or came, in milliseconds; the number of the request that it gave last, and how many
--- of those that it gave were answered
+-- something last, or came, in milliseconds; the number of the request that it gave last, and how
+-- many of those that it gave were answered
 pub record PeerShown : Type 0 where
   pub id : ℕ
-  pub stage : Stage
+  pub stage : PeerState
   pub why : Option PeerEnd
   pub held : Bool
   pub live : LiveSource
   pub promised : ℕ
   pub room : ℕ
-  pub reads : List Call
-  pub writes : List Call
+  pub reads : List StreamCall
+  pub writes : List StreamCall
   pub heard : ℕ
   pub given : ℕ
   pub answered : ℕ
@@ -55,7 +55,7 @@ HasOwnId s = s.id ≡ s.live.setup.conn
 -- ---- what it hears
 
 -- how far a connection has come once it was told of a piece: a fault has it linger
-abbrev pub stage_told : Stage → Piece → Stage
+abbrev pub stage_told : PeerState → Piece → PeerState
 stage_told s (piece.Waiting count) = s
 stage_told s (piece.Fault fault) = stage.Lingering
 stage_told s piece.Closed = stage.Lingering
@@ -67,7 +67,7 @@ why_told why (piece.Fault f) = Some (peer_end.Closed (source_end.Fault f))
 why_told why piece.Closed = Some (peer_end.Closed (source_end.Fault fault.Closed))
 
 -- how far it has come once a visit to its stream ended: it is over where the stream ended
-abbrev pub stage_visited : Stage → Visit → Stage
+abbrev pub stage_visited : PeerState → Visit → PeerState
 stage_visited s visit.Waits = s
 stage_visited s visit.Full = s
 stage_visited s visit.Ended = stage.Over
@@ -75,7 +75,7 @@ stage_visited s visit.Ended = stage.Over
 -- Bytes come to a connection, and this is its live part then, how far it has come, and why the
 -- relay ended it. They are taken in, and a fault has it linger, and is why. Or none of them is,
 -- when out of memory, which is why it is over.
-abbrev pub IsPiece : PeerShown → (bytes : List ℕ) → LiveSource → Stage → Option PeerEnd → Type 0
+abbrev pub IsPiece : PeerShown → (bytes : List ℕ) → LiveSource → PeerState → Option PeerEnd → Type 0
 IsPiece s bytes live come why =
     ((live ≡ live_piece_next s.live bytes)
     × (come ≡ stage_told s.stage (live_piece_answer s.live bytes))
@@ -83,7 +83,7 @@ IsPiece s bytes live come why =
     ⊎ ((live ≡ s.live) × (come ≡ stage.Over) × (why ≡ Some peer_end.Memory))
 
 -- the same where there may be no byte, which changes nothing
-abbrev pub TakesIn : PeerShown → (bytes : List ℕ) → LiveSource → Stage → Option PeerEnd → Type 0
+abbrev pub TakesIn : PeerShown → (bytes : List ℕ) → LiveSource → PeerState → Option PeerEnd → Type 0
 TakesIn s [] live come why = (live ≡ s.live) × (come ≡ s.stage) × (why ≡ s.why)
 TakesIn s (byte ∷ bytes) live come why = IsPiece s (byte ∷ bytes) live come why
 
@@ -95,10 +95,10 @@ heard_at now (byte ∷ bytes) before = now
 -- what a visit to its stream gave is taken in, and then it is over where the stream ended
 abbrev pub Hears : PeerShown → (bytes : List ℕ) → (end : Visit) → PeerShown → Type 0
 Hears s bytes end t =
-    (come : Stage) × (TakesIn s bytes t.live come t.why × (t.stage ≡ stage_visited come end))
+    (come : PeerState) × (TakesIn s bytes t.live come t.why × (t.stage ≡ stage_visited come end))
 
--- its stream is read in one visit at a moment, for so many bytes at most, and to its end where it is
--- to be; what that gives is heard, and it says whether there may be more
+-- its stream is read in one visit at a moment, for so many bytes at most, and to its end where it
+-- is to be; what that gives is heard, and it says whether there may be more
 pub record Reads (now : ℕ) (to_end : Bool) (most : ℕ) (s : PeerShown) (more : Bool) (t : PeerShown)
     : Type 0 where
   pub bytes : List ℕ
@@ -204,7 +204,7 @@ IsTold s (Some ack) t = IsPut s ack t ⊎ IsNotPut s ack t
 -- ---- when it is idle
 
 -- a connection that is read and written, and is not about to go
-abbrev pub is_open : Stage → Bool
+abbrev pub is_open : PeerState → Bool
 is_open stage.Open = true
 is_open stage.Lingering = false
 is_open stage.Over = false
@@ -226,7 +226,7 @@ silent_since s = if owes_nothing s then Some s.heard else None
 -- ---- why it is ended
 
 -- that its request was not admitted: for want of memory, or because the relay closes it
-abbrev pub end_by : SourceEnd → PeerEnd
+abbrev pub end_by : CloseReason → PeerEnd
 end_by (source_end.Refused output refusal.Memory) = peer_end.Memory
 end_by why = peer_end.Closed why
 
@@ -234,7 +234,7 @@ end_by why = peer_end.Closed why
 
 -- whether a connection stands that has come so far, and has these bytes to be sent: it is open, or
 -- it lingers over bytes
-abbrev pub stands : Stage → (unsent : List ℕ) → Bool
+abbrev pub stands : PeerState → (unsent : List ℕ) → Bool
 stands stage.Open unsent = true
 stands stage.Lingering unsent = not (length unsent == 0)
 stands stage.Over unsent = false

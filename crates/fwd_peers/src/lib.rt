@@ -3,16 +3,16 @@
 #![tactic(auto)]
 
 mod calls;
+mod close_reason;
 mod cost;
 mod limits;
-mod source_end;
+mod peer_state;
 mod source_peer;
-mod stage;
 mod stream;
 
+pub use close_reason::{CloseReason, PeerEnd};
 pub use cost::upkeep;
 pub use limits::{GREETING, SMALL_PIECE};
-pub use source_end::{PeerEnd, SourceEnd};
+pub use peer_state::PeerState;
 pub use source_peer::SourcePeer;
-pub use stage::Stage;
 pub use stream::{PeerStream, Visit};

@@ -24,10 +24,10 @@ ghost use Rattle.fwd_source.specs.Live.{source_appends};
 ghost use Rattle.fwd_peers.specs.Streams.{IsReading};
 ghost use Rattle.fwd_peers.specs.Peers as peers;
 
+use crate::close_reason::{CloseReason, PeerEnd};
 use crate::cost::upkeep;
 use crate::limits::{ACK_FRONT, GREETING, SHORT_REQUEST, SMALL_PIECE, UNSENT};
-use crate::source_end::{PeerEnd, SourceEnd};
-use crate::stage::Stage;
+use crate::peer_state::PeerState;
 use crate::stream::{PeerStream, Visit};
 use fwd_book::Receipt;
 use fwd_match::Routes;
@@ -48,7 +48,7 @@ pub struct SourcePeer {
     /// Whose it is.
     peer: SocketAddr,
     source: Source,
-    stage: Stage,
+    stage: PeerState,
     /// Why the relay closes it, until that is told.
     why: Option<PeerEnd>,
     /// So many bytes of acknowledgements were promised room.
@@ -133,7 +133,7 @@ impl SourcePeer {
         requires { source.live.setup.conn ≡ id }
         ensures { result ≡ record {
           id = id;
-          stage = Stage.Open;
+          stage = PeerState.Open;
           why = None;
           held = false;
           live = source.live;
@@ -151,7 +151,7 @@ impl SourcePeer {
             stream: PeerStream::new(stream),
             peer,
             source,
-            stage: Stage::Open,
+            stage: PeerState::Open,
             why: None,
             promised: 0,
             is_held: false,
@@ -175,14 +175,14 @@ impl SourcePeer {
     /// where the other side is said to have closed; and says whether there may be more. A source
     /// that does not take what is sent to it is not read.
     pub fn hear(&mut self, alloc: Global, room: &mut [u8], to_end: bool, now: u64) -> bool
-        ensures closed { self.old.stage ≢ Stage.Open
+        ensures closed { self.old.stage ≢ PeerState.Open
             → (self.new ≡ self.old) × (result ≡ false) }
-        ensures held { self.old.stage ≡ Stage.Open → UNSENT ≤ length self.old.live.unsent
+        ensures held { self.old.stage ≡ PeerState.Open → UNSENT ≤ length self.old.live.unsent
             → (self.new ≡ record self.old { held = true }) × (result ≡ false) }
-        ensures read { self.old.stage ≡ Stage.Open → length self.old.live.unsent < UNSENT
+        ensures read { self.old.stage ≡ PeerState.Open → length self.old.live.unsent < UNSENT
             → peers.Reads now to_end (length room.new) self.old result self.new }
     {
-        if self.stage != Stage::Open {
+        if self.stage != PeerState::Open {
             return false;
         }
         self.is_held = self.source.out().len() >= UNSENT;
@@ -245,18 +245,18 @@ impl SourcePeer {
     /// It had a fault: it is read no more.
     fn linger(&mut self, fault: SourceFault)
         ensures { self.new ≡ record self.old {
-          stage = Stage.Lingering;
-          why = Some (PeerEnd.Closed (SourceEnd.Fault fault));
+          stage = PeerState.Lingering;
+          why = Some (PeerEnd.Closed (CloseReason.Fault fault));
         } }
     {
-        self.stage = Stage::Lingering;
-        self.why = Some(PeerEnd::Closed(SourceEnd::Fault(fault)));
+        self.stage = PeerState::Lingering;
+        self.why = Some(PeerEnd::Closed(CloseReason::Fault(fault)));
     }
 
     /// It is over when out of memory.
     fn starve(&mut self)
         ensures { self.new ≡ record self.old {
-          stage = Stage.Over;
+          stage = PeerState.Over;
           why = Some PeerEnd.Memory;
         } }
     {
@@ -265,14 +265,14 @@ impl SourcePeer {
     }
 
     /// It is over, since a request of it is not admitted.
-    pub fn refuse(&mut self, why: SourceEnd)
+    pub fn refuse(&mut self, why: CloseReason)
         ensures { self.new ≡ record self.old {
-          stage = Stage.Over;
+          stage = PeerState.Over;
           why = Some (peers.end_by why);
         } }
     {
         match why {
-            SourceEnd::Refused(_, AdmitRefusal::Memory) => self.starve(),
+            CloseReason::Refused(_, AdmitRefusal::Memory) => self.starve(),
             why => {
                 self.end();
                 self.why = Some(PeerEnd::Closed(why));
@@ -422,9 +422,9 @@ impl SourcePeer {
 
     /// The connection is over, once what waits was written as far as its stream takes it.
     pub fn end(&mut self)
-        ensures { self.new ≡ record self.old { stage = Stage.Over } }
+        ensures { self.new ≡ record self.old { stage = PeerState.Over } }
     {
-        self.stage = Stage::Over;
+        self.stage = PeerState::Over;
     }
 
     /// Since when it has been silent (milliseconds), where neither it nor the relay owes the other
@@ -433,7 +433,7 @@ impl SourcePeer {
     pub fn silent_since(&self) -> Option<u64>
         ensures { result ≡ peers.silent_since self.now }
     {
-        let is_quiet = self.stage == Stage::Open
+        let is_quiet = self.stage == PeerState::Open
             && !self.source.awaits_login()
             && self.source.waiting() == 0
             && self.given <= self.answered
@@ -484,9 +484,9 @@ impl SourcePeer {
         ensures { result ≡ peers.stands self.now.stage self.now.live.unsent }
     {
         match self.stage {
-            Stage::Open => true,
-            Stage::Lingering => !self.source.out().is_empty(),
-            Stage::Over => false,
+            PeerState::Open => true,
+            PeerState::Lingering => !self.source.out().is_empty(),
+            PeerState::Over => false,
         }
     }
 }

@@ -3,7 +3,7 @@
 ghost use Rattle.std.specs.Prelude.{◌≡◌, ◌≤◌, ◌<◌, [], true, false, length, take, IfOk};
 ghost use Rattle.fwd_peers.specs.Streams as streams;
 
-use crate::calls::Calls;
+use crate::calls::StreamCalls;
 use mio::net::TcpStream;
 use std::io;
 use std::io::{ErrorKind, Read, Write};
@@ -62,9 +62,9 @@ fn stops_at(count: usize, room: usize, to_end: bool) -> bool
 pub struct PeerStream {
     pub tcp: TcpStream,
     /// What read of it.
-    reads: Calls,
+    reads: StreamCalls,
     /// What wrote to it.
-    writes: Calls,
+    writes: StreamCalls,
 }
 
 impl Model for PeerStream {
@@ -82,8 +82,8 @@ impl PeerStream {
     {
         PeerStream {
             tcp,
-            reads: Calls::none(),
-            writes: Calls::none(),
+            reads: StreamCalls::none(),
+            writes: StreamCalls::none(),
         }
     }
 

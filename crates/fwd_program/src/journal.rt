@@ -1,11 +1,11 @@
 //! What a run says on standard error. A line takes no memory, so that want of memory can be said.
 
 use crate::ending::RunEnd;
+use crate::journal_line::{JournalLine, Subject};
 use crate::line_limits::{LeftOut, LineLimits};
-use crate::telling::{Subject, Telling};
 use crate::version::VERSION;
 use arrayvec::ArrayString;
-use fwd_loop::{Fact, Watch};
+use fwd_loop::{JournalEvent, Observer};
 use jiff::Timestamp;
 use std::env::Env;
 use std::fmt::Write as _;
@@ -26,7 +26,7 @@ const LINE: usize = 400;
 pub enum Log {
     /// It says nothing.
     Off,
-    /// It says each fact, on a line.
+    /// It says each event, on a line.
     Info,
 }
 
@@ -38,8 +38,8 @@ pub fn asked_log<R: Env + AllocGlobal>(rt: &R) -> Log {
     }
 }
 
-/// Says facts, each on a line behind the time in UTC: of one subject at most ten in a second of the
-/// clock, and in a later one how many were left out. It takes no memory. A line that cannot be
+/// Says events, each on a line behind the time in UTC: of one subject at most ten in a second of
+/// the clock, and in a later one how many were left out. It takes no memory. A line that cannot be
 /// written is left out, and told as that as soon as a line can be written. Where the clock cannot
 /// be read it stands, at first at 1970.
 #[derive(Drop)]
@@ -57,7 +57,7 @@ pub struct Journal<'a, R: Clock, E: Write> {
 }
 
 impl<'a, R: Clock, E: Write> Journal<'a, R, E> {
-    /// Says facts by this clock, on these errors.
+    /// Says events by this clock, on these errors.
     pub fn new(clock: &'a R, errors: &'a mut E) -> Self {
         Journal {
             clock,
@@ -113,7 +113,7 @@ impl<'a, R: Clock, E: Write> Journal<'a, R, E> {
         }
     }
 
-    /// Whether there is nothing to tell beside facts.
+    /// Whether there is nothing to tell beside events.
     fn is_quiet(&self) -> bool {
         self.unwritten == 0 && self.limits.is_clear()
     }
@@ -144,13 +144,13 @@ impl<'a, R: Clock, E: Write> Journal<'a, R, E> {
     }
 }
 
-impl<'a, R: Clock, E: Write> Watch for Journal<'a, R, E> {
-    fn see(&mut self, fact: Fact) {
+impl<'a, R: Clock, E: Write> Observer for Journal<'a, R, E> {
+    fn observe(&mut self, event: JournalEvent) {
         self.look();
         let second = self.now.as_second();
         self.settle(Some(second));
-        if self.limits.takes(Subject::of(&fact), second) {
-            self.say(&Telling { fact }, 1);
+        if self.limits.takes(Subject::of(&event), second) {
+            self.say(&JournalLine { event }, 1);
         }
     }
 

@@ -9,6 +9,7 @@ mod ending;
 mod errors;
 mod file;
 mod journal;
+mod journal_line;
 mod key_lines;
 mod line_limit;
 mod line_limits;
@@ -16,7 +17,6 @@ mod program;
 mod running;
 mod saying;
 mod sections;
-mod telling;
 mod unreached;
 mod version;
 

@@ -1,7 +1,7 @@
 //! How many lines of each subject a second has room for.
 
+use crate::journal_line::{LineKind, Subject};
 use crate::line_limit::LineLimit;
-use crate::telling::{Kind, Subject};
 
 /// The most subjects that are limited each by itself in a second: a further one shares the limit of
 /// its kind. A subject has no address, so that no peer can make more of them.
@@ -9,14 +9,14 @@ const SUBJECTS: usize = 128;
 
 /// The lines of a subject.
 #[derive(Clone, Copy)]
-struct Place {
+struct SubjectSlot {
     subject: Option<Subject>,
     limit: LineLimit,
 }
 
-impl Place {
+impl SubjectSlot {
     /// Before the first line.
-    const FREE: Place = Place {
+    const FREE: SubjectSlot = SubjectSlot {
         subject: None,
         limit: LineLimit::NONE,
     };
@@ -43,9 +43,9 @@ pub struct LeftOut {
 /// The lines of each subject, by the seconds of a clock. It takes no memory.
 #[derive(Drop)]
 pub struct LineLimits {
-    places: [Place; SUBJECTS],
+    places: [SubjectSlot; SUBJECTS],
     /// Of subjects without a place, by kinds.
-    shared: [LineLimit; Kind::COUNT],
+    shared: [LineLimit; LineKind::COUNT],
     /// Some were left out that are not told yet.
     is_owing: bool,
 }
@@ -54,8 +54,8 @@ impl LineLimits {
     /// Before the first line.
     pub fn new() -> LineLimits {
         LineLimits {
-            places: [Place::FREE; SUBJECTS],
-            shared: [LineLimit::NONE; Kind::COUNT],
+            places: [SubjectSlot::FREE; SUBJECTS],
+            shared: [LineLimit::NONE; LineKind::COUNT],
             is_owing: false,
         }
     }
@@ -72,7 +72,7 @@ impl LineLimits {
             Some(at) => at,
             None => {
                 let free = self.places.iter().position(|place| place.is_free(second))?;
-                self.places[free] = Place {
+                self.places[free] = SubjectSlot {
                     subject: Some(subject),
                     limit: LineLimit::NONE,
                 };
@@ -107,7 +107,7 @@ impl LineLimits {
                 return Some(LeftOut { subject, count });
             }
         }
-        for (kind, limit) in Kind::ALL.iter().zip(&mut self.shared) {
+        for (kind, limit) in LineKind::ALL.iter().zip(&mut self.shared) {
             if let Some(count) = owed_of(limit, second) {
                 let subject = Subject::others(*kind);
                 return Some(LeftOut { subject, count });

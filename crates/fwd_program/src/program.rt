@@ -15,6 +15,7 @@ use crate::checking::check_said;
 use crate::ending::RunEnd;
 use crate::journal::Log;
 use crate::running::run_file;
+use fwd_loop::Runtime;
 use fwd_script::{Command, End, Status, asked, run_program, tell as tell_end};
 use std::io;
 use std::io::{ErrorKind, Read, Write};
@@ -54,18 +55,14 @@ fn do_other<R: Files + AllocGlobal, I: Read, W: Write, E: Write>(
 }
 
 /// Does what words ask for, and returns the exit status.
-fn run_words<
-    R: Net<Listener = TcpListener, Stream = TcpStream>
-        + Threads
-        + Wait
-        + Clock
-        + Files
-        + AllocGlobal
-        + Sync,
-    I: Read,
-    W: Write,
-    E: Write,
->(rt: &R, words: Vec<String>, log: Log, input: &mut I, output: &mut W, errors: &mut E) -> u8
+fn run_words<R: Runtime + Files, I: Read, W: Write, E: Write>(
+    rt: &R,
+    words: Vec<String>,
+    log: Log,
+    input: &mut I,
+    output: &mut W,
+    errors: &mut E,
+) -> u8
     ensures run { (path : List ℕ) (turns : ℕ)
         → AsksRun (words_behind (map string_bytes words.items)) path turns
         → (end : TheEnd) × (result ≡ run_code end) × (text : List ℕ)
@@ -91,6 +88,9 @@ fn run_words<
 /// as `fwd_script::run_program` does, and says of a check why the settings are refused, or what is
 /// foolish in them. It returns the exit status. An end that cannot be told has
 /// the same exit status.
+///
+/// What it asks of its runtime is that of a `Runtime`, in full: a caller with a runtime of its own has
+/// to meet its sockets' types by name.
 pub fn run_all<
     R: Net<Listener = TcpListener, Stream = TcpStream>
         + Threads

@@ -13,15 +13,12 @@ use crate::cautions::say_of_relay;
 use crate::ending::RunEnd;
 use crate::file::SettingsFile;
 use crate::journal::{Journal, Log};
-use fwd_loop::{Loop, Watch};
+use fwd_loop::{Loop, Observer, Runtime};
 use fwd_monitor::page;
 use fwd_script::{Status, flush, write_all};
 use fwd_settings::{Settings, SettingsFault};
 use std::io::Write;
-use std::net::{Net, TcpListener, TcpStream};
-use std::rt::{Clock, Files};
-use std::sync::Wait;
-use std::thread::Threads;
+use std::rt::Files;
 
 /// The settings in a file. It says why they are refused, or that no run by them can start.
 fn settings_at<R: Files + AllocGlobal, E: Write>(
@@ -41,23 +38,13 @@ fn settings_at<R: Files + AllocGlobal, E: Write>(
     found
 }
 
-/// Runs by the settings that were found, under a watch, and writes the page of the last reports:
-/// nothing else is written before.
-fn run_found<
-    R: Net<Listener = TcpListener, Stream = TcpStream>
-        + Threads
-        + Wait
-        + Clock
-        + Files
-        + AllocGlobal
-        + Sync,
-    V: Watch,
-    W: Write,
->(
+/// Runs by the settings that were found, under an observer, and writes the page of the last
+/// reports: nothing else is written before.
+fn run_found<R: Runtime + Files, V: Observer, W: Write>(
     rt: &R,
     found: Result<Settings, SettingsFault>,
     turns: u64,
-    watch: &mut V,
+    observer: &mut V,
     output: &mut W,
 ) -> Result<(), RunEnd>
     requires { IfOk found (λ settings. in_range settings ≡ true) }
@@ -68,24 +55,14 @@ fn run_found<
 {
     let settings = found?;
     let relay = Loop::new(rt, settings)?;
-    let reports = relay.run_watched(rt, watch, turns)?;
+    let reports = relay.run_watched(rt, observer, turns)?;
     let text = page(rt.alloc(), &reports)?;
     Ok(write_all(output, text.as_bytes())?)
 }
 
 /// The same, under a journal where the log asks for one, which begins with what runs and ends with
 /// why it does no more.
-fn run_told<
-    R: Net<Listener = TcpListener, Stream = TcpStream>
-        + Threads
-        + Wait
-        + Clock
-        + Files
-        + AllocGlobal
-        + Sync,
-    W: Write,
-    E: Write,
->(
+fn run_told<R: Runtime + Files, W: Write, E: Write>(
     rt: &R,
     found: Result<Settings, SettingsFault>,
     run: Run<'_>,
@@ -125,17 +102,13 @@ fn ended(ran: Result<(), RunEnd>) -> RunEnd
 
 /// Runs by the settings in a file, under a journal where the log asks for one, and writes the page
 /// of the last reports. It says why a run came to no more.
-fn run_logged<
-    R: Net<Listener = TcpListener, Stream = TcpStream>
-        + Threads
-        + Wait
-        + Clock
-        + Files
-        + AllocGlobal
-        + Sync,
-    W: Write,
-    E: Write,
->(rt: &R, run: Run<'_>, log: Log, output: &mut W, errors: &mut E) -> RunEnd
+fn run_logged<R: Runtime + Files, W: Write, E: Write>(
+    rt: &R,
+    run: Run<'_>,
+    log: Log,
+    output: &mut W,
+    errors: &mut E,
+) -> RunEnd
     ensures { (text : List ℕ)
         × Runs result text (W.contents output.old) (W.contents output.new) }
 {
@@ -151,17 +124,13 @@ fn run_logged<
 /// was written or a front of the page; out of memory is `Ran(Memory)`. Behind all other ends but
 /// `Done` nothing was written. The errors say why settings or an address are refused and, where the
 /// log asks for it, what the run comes to.
-pub fn run_file<
-    R: Net<Listener = TcpListener, Stream = TcpStream>
-        + Threads
-        + Wait
-        + Clock
-        + Files
-        + AllocGlobal
-        + Sync,
-    W: Write,
-    E: Write,
->(rt: &R, run: Run<'_>, log: Log, output: &mut W, errors: &mut E) -> RunEnd
+pub fn run_file<R: Runtime + Files, W: Write, E: Write>(
+    rt: &R,
+    run: Run<'_>,
+    log: Log,
+    output: &mut W,
+    errors: &mut E,
+) -> RunEnd
     ensures { (text : List ℕ)
         × Runs result text (W.contents output.old) (W.contents output.new) }
 {

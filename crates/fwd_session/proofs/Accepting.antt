@@ -7,8 +7,8 @@ use Rattle.std.proofs.lemmas.Option.{same_Some}
 use Rattle.std.proofs.lemmas.Slice.Eq.{bytes_eq-Decides}
 use Rattle.fwd_modes.specs.Acks.{ack_name}
 use Rattle.fwd_msgpack.specs.Scans.{values_of}
-use Rattle.fwd_chunks.specs.History.{Load}
-use Rattle.fwd_session.specs.Evidence.{Accepted}
+use Rattle.fwd_chunks.specs.History.{CarriedChunk}
+use Rattle.fwd_session.specs.ServerAcks.{Accepted}
 use Rattle.fwd_session.specs.Said.{Awaited, names, is_name, without_first, left_by, accepted_for, accepted_by}
 use Rattle.fwd_session.specs.History.{Loaded, SessionHistory, IsAcknowledged, awaited, chunks_of, handshake_of, hears, is_handed_on, listens, newly_accepted, newly_heard, room, says}
 use Rattle.fwd_session.proofs.Lists.{all_append, all_find, all_placed, all_without, find_map, find_passes, left_length, left_map, length_map, without_map}
@@ -27,7 +27,7 @@ module _ (s : SessionHistory) (bytes : List ℕ) where
   abbrev awaits : Loaded → Awaited
   awaits l = record { name = l.chunk.name; is_handed_on = is_handed_on s l }
 
-  abbrev chunk_in : Loaded → Load
+  abbrev chunk_in : Loaded → CarriedChunk
   chunk_in l = l.chunk
 
   abbrev Placed : (value : List ℕ) → Type 0
@@ -123,8 +123,8 @@ keeps_room s bytes = by s.down
         let vs = (says s bytes).replies in
         let cs = chunks_of s.carried in
         let name_of : Loaded → List ℕ = λ l. l.chunk.name in
-        let left : length (left_by name_of vs s.carried) ≡ length (left_by (λ (c : Load). c.name) vs cs) =
-        sym (ap length (left_map (λ (c : Load). c.name) (λ (l : Loaded). l.chunk) vs s.carried) ∙ length_map (λ (l : Loaded). l.chunk) (left_by name_of vs s.carried)) in
+        let left : length (left_by name_of vs s.carried) ≡ length (left_by (λ (c : CarriedChunk). c.name) vs cs) =
+        sym (ap length (left_map (λ (c : CarriedChunk). c.name) (λ (l : Loaded). l.chunk) vs s.carried) ∙ length_map (λ (l : Loaded). l.chunk) (left_by name_of vs s.carried)) in
         let both : length (left_by name_of vs s.carried) + length (s.accepted ++ accepted_by vs cs) ≡ length s.carried + length s.accepted =
         omega (arith, left, left_length vs cs, length_map (λ (l : Loaded). l.chunk) s.carried, length-append s.accepted (accepted_by vs cs)) in
         ap (λ n. s.setup.window - n) both

@@ -5,7 +5,7 @@ use Rattle.fwd_msgpack.specs.Heads.{row_of, named_rows, reading_of, head_bytes}
 use Rattle.fwd_msgpack.specs.Scans.{first_of, fault_at, item_begun, payload_ended, split_of, row_of_values, parts_of}
 use Rattle.fwd_modes.specs.Frames.{chunk_frame}
 use Rattle.fwd_modes.specs.Acks.{ack_text, ack_name}
-use Rattle.fwd_chunks.specs.History.{Load}
+use Rattle.fwd_chunks.specs.History.{CarriedChunk}
 use Rattle.fwd_session.specs.declared.fault.SessionFault.TheVariants.{BadReply, WrongAck, EarlyAck}
 use Rattle.fwd_session.specs.declared.told.SessionHeard.TheVariants.{Acked, Fault, NotUp}
 use Rattle.fwd_session.specs.Said.{reply_stream, word_of}
@@ -23,7 +23,7 @@ setup window = record {
 }
 
 -- a chunk of one entry of three bytes, whose frame has 46
-abbrev chunk : ℕ → Load
+abbrev chunk : ℕ → CarriedChunk
 chunk number = record { number = number; tag = 0x61 ∷ []; entries = (0x92 ∷ 0x01 ∷ 0x80 ∷ []) ∷ []; name = replicate 24 (64 + number) }
 
 -- its acknowledgement

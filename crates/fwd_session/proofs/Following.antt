@@ -8,14 +8,14 @@ use Rattle.fwd_msgpack.specs.Scans.Split.{Open, Broken}
 use Rattle.fwd_msgpack.proofs.Rows.{split_append}
 use Rattle.fwd_modes.specs.Acks.{ack_name}
 use Rattle.fwd_handshake.specs.declared.credentials.Login.{Login}
-use Rattle.fwd_chunks.specs.History.{Load}
+use Rattle.fwd_chunks.specs.History.{CarriedChunk}
 use Rattle.fwd_session.specs.declared.limits.TheConstants.{REPLY_LIMIT, REPLY_NESTING}
 use Rattle.fwd_session.specs.declared.fault.SessionFault.{SessionFault}
 use Rattle.fwd_session.specs.declared.fault.SessionFault.TheVariants as fault
 use Rattle.fwd_session.specs.declared.handshake.Handshake.{Handshake}
 use Rattle.fwd_session.specs.declared.handshake.Handshake.TheVariants.{AwaitsHelo, AwaitsPong, Done}
 use Rattle.fwd_session.specs.declared.told.SessionHeard.TheVariants as told
-use Rattle.fwd_session.specs.Evidence.{frame_of}
+use Rattle.fwd_session.specs.ServerAcks.{frame_of}
 use Rattle.fwd_session.specs.Said.{Word, Awaited, Said, awaited_behind, left_by, accepted_by, out_of, ack_word, word_of, word_then, said_of, said_in, silence, failing, reply_stream, ended_by, behind, rest_of}
 use Rattle.fwd_session.specs.Said.Word.{Skipped, Greets, Acks, Fails}
 use Rattle.fwd_session.specs.History.{Setup, Loaded, SessionHistory, IsSane, is_open, greeted, handshake_of, is_handed_on, is_ready, is_first_over, is_late, room, to_send, awaited, newly_heard, says, is_done, told_by, told_of, piece_told, piece_out, waits_from, acked, chunks_of, begins, loads, sends, listens, hears, unloads, looks}
@@ -380,7 +380,7 @@ loads-left true sent appended frame e le = absurd cc
 loads-left false sent appended frame e le =
     omega (arith, le, length-append appended frame, length-append (drop sent appended) frame, length-drop sent appended)
 
-pub loads-live : (s : SessionHistory) (c : Load) (now : ℕ) → IsSane s → s.down ≡ false
+pub loads-live : (s : SessionHistory) (c : CarriedChunk) (now : ℕ) → IsSane s → s.down ≡ false
     → live_session (loads s c now) ≡ session_loads (live_session s) c now
 unfolding live_session
 loads-live s c now sane up =
@@ -399,7 +399,7 @@ loads-live s c now sane up =
       moment = max s.moment now;
     }
 
-pub loads-sane : (s : SessionHistory) (c : Load) (now : ℕ) → IsSane s → IsSane (loads s c now)
+pub loads-sane : (s : SessionHistory) (c : CarriedChunk) (now : ℕ) → IsSane s → IsSane (loads s c now)
 loads-sane s c now sane = record {
   started = grind (arith, sane.started);
   sent = omega (arith, sane.sent, length-append s.appended (frame_of c));

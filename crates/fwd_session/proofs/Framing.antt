@@ -3,10 +3,10 @@ use Rattle.std.proofs.Common.{◌≡◌, ℕ, Bool, true, false, cond, List, [],
 use Rattle.std.specs.Prelude.{not, ◌&&◌}
 use Rattle.std.specs.List.{AllByRecursion}
 use Rattle.std.proofs.lemmas.List.{append-nil}
-use Rattle.fwd_chunks.specs.History.{Load}
+use Rattle.fwd_chunks.specs.History.{CarriedChunk}
 use Rattle.fwd_session.specs.declared.handshake.Handshake.{Handshake}
 use Rattle.fwd_session.specs.declared.handshake.Handshake.TheVariants.{AwaitsHelo, AwaitsPong, Done}
-use Rattle.fwd_session.specs.Evidence.{frame_of}
+use Rattle.fwd_session.specs.ServerAcks.{frame_of}
 use Rattle.fwd_session.specs.Said.{out_of, left_by}
 use Rattle.fwd_session.specs.History.{Setup, Loaded, SessionHistory, IsSane, IsAppended, IsFramed, awaited, begins, handshake_of, hears, is_done, is_free_for, is_ready, listens, loads, looks, newly_heard, says, sends, unloads}
 use Rattle.fwd_session.proofs.Lists.{all_same, all_append, all_left, left_none}
@@ -39,7 +39,7 @@ all-more : (appended more : List ℕ) (ls : List Loaded) → AllByRecursion (IsA
     → AllByRecursion (IsAppended (appended ++ more)) ls
 all-more appended more ls all = all_same (IsAppended appended) (IsAppended (appended ++ more)) ls (appended-more appended more) all
 
-pub loads-framed : (s : SessionHistory) (c : Load) (now : ℕ) → IsFramed s → is_ready s ≡ true
+pub loads-framed : (s : SessionHistory) (c : CarriedChunk) (now : ℕ) → IsFramed s → is_ready s ≡ true
     → IsFramed (loads s c now)
 loads-framed s c now own ready =
     let one : Loaded = record { chunk = c; through = length (s.appended ++ frame_of c); moment = max s.moment now } in

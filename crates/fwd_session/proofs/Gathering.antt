@@ -5,18 +5,18 @@ use Rattle.std.proofs.lemmas.List.{take_at, drop_at, append-nil, take-append-dro
 use Rattle.std.proofs.lemmas.List.Folds.{concat-append}
 use Rattle.fwd_msgpack.specs.Heads.{head_bytes}
 use Rattle.fwd_modes.specs.Frames.{frame_head, frame_option, chunk_frame}
-use Rattle.fwd_chunks.specs.History.{Load}
-use Rattle.fwd_session.specs.Evidence.{frame_of}
+use Rattle.fwd_chunks.specs.History.{CarriedChunk}
+use Rattle.fwd_session.specs.ServerAcks.{frame_of}
 
 -- a frame is its head, its entries and its tail
-pub frame_parts : (c : Load) (size : ℕ) → size ≡ length (concat c.entries)
+pub frame_parts : (c : CarriedChunk) (size : ℕ) → size ≡ length (concat c.entries)
     → frame_head c.tag size ++ concat c.entries ++ frame_option (length c.entries) c.name
     ≡ frame_of c
 unfolding chunk_frame
 frame_parts c size e = ap (λ n. frame_head c.tag n ++ concat c.entries ++ frame_option (length c.entries) c.name) e
 
 -- a frame has a byte
-pub frame_some : (c : Load) → 0 < length (frame_of c)
+pub frame_some : (c : CarriedChunk) → 0 < length (frame_of c)
 unfolding chunk_frame head_bytes
 frame_some c = omega arith
 

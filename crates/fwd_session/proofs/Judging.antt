@@ -7,30 +7,30 @@ use Rattle.std.specs.List.{list_any}
 use Rattle.std.specs.Arc.{arc_value}
 use Rattle.std.specs.Str.{bytes_eq}
 use Rattle.fwd_modes.specs.Acks.{ack_name}
-use Rattle.fwd_chunks.specs.History.{Load}
+use Rattle.fwd_chunks.specs.History.{CarriedChunk}
 use Rattle.fwd_session.specs.declared.fault.SessionFault.{SessionFault}
 use Rattle.fwd_session.specs.declared.fault.SessionFault.TheVariants as fault
 use Rattle.fwd_session.specs.declared.handshake.Handshake.{Handshake}
 use Rattle.fwd_session.specs.declared.hearing.Ack.{Ack}
 use Rattle.fwd_session.specs.declared.hearing.Hearing.{Hearing}
-use Rattle.fwd_session.specs.Evidence.{Evidence}
+use Rattle.fwd_session.specs.ServerAcks.{ServerAck}
 use Rattle.fwd_session.specs.Said.{Word, Awaited, Said, ack_word, acking, awaited_behind, named_word, names}
 use Rattle.fwd_session.specs.Said.Word.{Acks, Fails}
-use Rattle.fwd_session.specs.Flights.{Pending, awaited_of}
+use Rattle.fwd_session.specs.Flights.{PendingChunk, awaited_of}
 use Rattle.fwd_session.specs.Hearing.{IsFirst, IsAckedAt, IsAckOf, AreAcksOf, before_others, pending_behind, replies_of, shown}
 use Rattle.fwd_session.proofs.Lists.{find_map, without_map}
 use Rattle.fwd_session.proofs.Firsts.{any_map_all, first_find, first_without}
 
-abbrev awaits : Pending → Awaited
+abbrev awaits : PendingChunk → Awaited
 awaits p = record { name = p.chunk.name; is_handed_on = p.is_handed_on }
 
 -- ---- one value
 
-any_awaited : (ps : List Pending)
+any_awaited : (ps : List PendingChunk)
     → list_any (λ a. a.is_handed_on) (awaited_of ps) ≡ list_any (λ p. p.is_handed_on) ps
 any_awaited ps = any_map_all (λ (a : Awaited). a.is_handed_on) awaits ps
 
-module _ (ps : List Pending) (name : List ℕ) where
+module _ (ps : List PendingChunk) (name : List ℕ) where
   abbrev here : Bool → Word
   here b = cond b (named_word (find (λ a. bytes_eq name a.name) (awaited_of ps))) (Fails fault.EarlyAck)
 
@@ -40,7 +40,7 @@ module _ (ps : List Pending) (name : List ℕ) where
   ack_early none = ap here (any_awaited ps ∙ none)
 
   -- what is found says it
-  pub ack_found : list_any (λ p. p.is_handed_on) ps ≡ true → (o : Option Pending)
+  pub ack_found : list_any (λ p. p.is_handed_on) ps ≡ true → (o : Option PendingChunk)
       → find (λ p. bytes_eq name p.chunk.name) ps ≡ o
       → ack_word (awaited_of ps) (Some name) ≡ named_word (option_map awaits o)
   ack_found some o found =
@@ -48,32 +48,32 @@ module _ (ps : List Pending) (name : List ℕ) where
       ∙ ap named_word (find_map (λ (a : Awaited). bytes_eq name a.name) awaits ps ∙ ap (option_map awaits) found)
 
   -- what is found, by whether its frame is handed on
-  pub ack_handed : list_any (λ p. p.is_handed_on) ps ≡ true → (place : ℕ) (one : Pending)
+  pub ack_handed : list_any (λ p. p.is_handed_on) ps ≡ true → (place : ℕ) (one : PendingChunk)
       → IsFirst (λ p. bytes_eq name p.chunk.name) ps place one → (b : Bool)
       → option_map (λ p. p.is_handed_on) (slice_get ps place) ≡ Some b
       → ack_word (awaited_of ps) (Some name) ≡ cond b Acks (Fails fault.EarlyAck)
   ack_handed some place one first b is =
-      let handed : one.is_handed_on ≡ b = same_Some _ _ (sym (ap (option_map (λ (p : Pending). p.is_handed_on)) first.there) ∙ is) in
-      ack_found some (Some one) (first_find (λ (p : Pending). bytes_eq name p.chunk.name) ps place one first)
+      let handed : one.is_handed_on ≡ b = same_Some _ _ (sym (ap (option_map (λ (p : PendingChunk). p.is_handed_on)) first.there) ∙ is) in
+      ack_found some (Some one) (first_find (λ (p : PendingChunk). bytes_eq name p.chunk.name) ps place one first)
       ∙ ap (λ h. cond h Acks (Fails fault.EarlyAck)) handed
 
 -- ---- acknowledgements, one after the other
 
 -- the chunks that are awaited behind one that is acknowledged
-pub awaited_next : (ps : List Pending) (value : List ℕ) (place : ℕ) → IsAckedAt ps value place
+pub awaited_next : (ps : List PendingChunk) (value : List ℕ) (place : ℕ) → IsAckedAt ps value place
     → awaited_behind (value ∷ []) (awaited_of ps) ≡ awaited_of (remove ps place)
 awaited_next ps value place acked =
     without_map (λ (a : Awaited). names value a.name) awaits ps
-    ∙ ap awaited_of (first_without (λ (p : Pending). names value p.chunk.name) ps place acked.one acked.first)
+    ∙ ap awaited_of (first_without (λ (p : PendingChunk). names value p.chunk.name) ps place acked.one acked.first)
 
 -- one more, behind the others
-pub acks_push : (server : ℕ) (ps : List Pending) (acks : List Ack) (a : Ack)
+pub acks_push : (server : ℕ) (ps : List PendingChunk) (acks : List Ack) (a : Ack)
     → AreAcksOf server ps acks → IsAckOf server (pending_behind acks ps) a
     → AreAcksOf server ps (acks ++ a ∷ [])
 acks_push server ps [] a are is = (is, tt)
 acks_push server ps (b ∷ acks) a are is = (are.0, acks_push server (remove ps b.place) acks a are.1 is)
 
-pub behind_push : (ps : List Pending) (acks : List Ack) (a : Ack)
+pub behind_push : (ps : List PendingChunk) (acks : List Ack) (a : Ack)
     → pending_behind (acks ++ a ∷ []) ps ≡ remove (pending_behind acks ps) a.place
 behind_push ps [] a = refl
 behind_push ps (b ∷ acks) a = behind_push (remove ps b.place) acks a
@@ -84,7 +84,7 @@ replies_push [] a = refl
 replies_push (b ∷ acks) a = ap (λ rs. (arc_value b.acked).reply ∷ rs) (replies_push acks a)
 
 -- what is kept of the chunk at the place is of the one that the value names
-pub ack_backed : (server : ℕ) (ps : List Pending) (a : Ack) (value : List ℕ) (c : Load)
+pub ack_backed : (server : ℕ) (ps : List PendingChunk) (a : Ack) (value : List ℕ) (c : CarriedChunk)
     → IsAckedAt ps value a.place
     → option_map (λ p. p.chunk) (slice_get ps a.place) ≡ Some c
     → arc_value a.acked ≡ record {
@@ -95,23 +95,23 @@ pub ack_backed : (server : ℕ) (ps : List Pending) (a : Ack) (value : List ℕ)
       reply = value;
     } → IsAckOf server ps a
 ack_backed server ps a value c acked chunk is =
-    let reply : (arc_value a.acked).reply ≡ value = ap (λ (e : Evidence). e.reply) is in
-    let same : c ≡ acked.one.chunk = sym (same_Some _ _ (sym (ap (option_map (λ (p : Pending). p.chunk)) acked.first.there) ∙ chunk)) in
+    let reply : (arc_value a.acked).reply ≡ value = ap (λ (e : ServerAck). e.reply) is in
+    let same : c ≡ acked.one.chunk = sym (same_Some _ _ (sym (ap (option_map (λ (p : PendingChunk). p.chunk)) acked.first.there) ∙ chunk)) in
     record {
       acked = record {
         one = acked.one;
-        first = subst (λ r. IsFirst (λ (p : Pending). names r p.chunk.name) ps a.place acked.one) (sym reply) acked.first;
+        first = subst (λ r. IsFirst (λ (p : PendingChunk). names r p.chunk.name) ps a.place acked.one) (sym reply) acked.first;
         handed_on = acked.handed_on;
         named = ap ack_name reply ∙ acked.named;
       };
       backed = (
         record {
-          number = ap (λ (e : Evidence). e.number) is ∙ ap (λ (l : Load). l.number) same;
-          tag = ap (λ (e : Evidence). e.tag) is ∙ ap (λ (l : Load). l.tag) same;
-          entries = ap (λ (e : Evidence). e.entries) is ∙ ap (λ (l : Load). l.entries) same;
+          number = ap (λ (e : ServerAck). e.number) is ∙ ap (λ (l : CarriedChunk). l.number) same;
+          tag = ap (λ (e : ServerAck). e.tag) is ∙ ap (λ (l : CarriedChunk). l.tag) same;
+          entries = ap (λ (e : ServerAck). e.entries) is ∙ ap (λ (l : CarriedChunk). l.entries) same;
           reply = ap ack_name reply ∙ acked.named;
         },
-        ap (λ (e : Evidence). e.server) is,
+        ap (λ (e : ServerAck). e.server) is,
       );
     }
 

@@ -3,7 +3,7 @@ use Rattle.std.proofs.Common.{◌≡◌, ℕ, zero, suc, ◌+◌, Bool, true, fa
 use Rattle.std.specs.Prelude.{map, find, slice_get, option_map}
 use Rattle.std.specs.List.{AllByRecursion}
 use Rattle.std.proofs.lemmas.Option.{same_Some}
-use Rattle.fwd_chunks.specs.History.{Load}
+use Rattle.fwd_chunks.specs.History.{CarriedChunk}
 use Rattle.fwd_session.specs.Said.{names, without_first, left_by, accepted_for, accepted_by}
 
 -- ---- one function after another
@@ -124,7 +124,7 @@ all_left P name_of (v ∷ vs) xs all =
     all_left P name_of vs (without_first (λ x. names v (name_of x)) xs) (all_without P (λ x. names v (name_of x)) xs all)
 
 -- the chunks that values acknowledge, where others came first
-pub accepted_append : (us vs : List (List ℕ)) (cs : List Load)
+pub accepted_append : (us vs : List (List ℕ)) (cs : List CarriedChunk)
     → accepted_by us cs ++ accepted_by vs (left_by (λ c. c.name) us cs) ≡ accepted_by (us ++ vs) cs
 accepted_append [] vs cs = refl
 accepted_append (u ∷ us) vs cs =
@@ -133,7 +133,7 @@ accepted_append (u ∷ us) vs cs =
     ∙ ap (λ ys. accepted_for u (find (λ c. names u c.name) cs) ++ ys) (accepted_append us vs left)
 
 -- one chunk is acknowledged, or none is taken away
-one_length : (test : Load → Bool) (cs : List Load) (v : List ℕ)
+one_length : (test : CarriedChunk → Bool) (cs : List CarriedChunk) (v : List ℕ)
     → length (without_first test cs) + length (accepted_for v (find test cs)) ≡ length cs
 one_length test [] v = refl
 one_length test (c ∷ cs) v = by (test c) (one_length test cs v)
@@ -146,9 +146,9 @@ one_length test (c ∷ cs) v = by (test c) (one_length test cs v)
     by false later = omega (arith, later)
 
 -- each chunk is acknowledged or left
-pub left_length : (vs : List (List ℕ)) (cs : List Load)
+pub left_length : (vs : List (List ℕ)) (cs : List CarriedChunk)
     → length (left_by (λ c. c.name) vs cs) + length (accepted_by vs cs) ≡ length cs
 left_length [] cs = omega arith
 left_length (v ∷ vs) cs =
-    let test : Load → Bool = λ c. names v c.name in
+    let test : CarriedChunk → Bool = λ c. names v c.name in
     omega (arith, left_length vs (without_first test cs), one_length test cs v, length-append (accepted_for v (find test cs)) (accepted_by vs (without_first test cs)))

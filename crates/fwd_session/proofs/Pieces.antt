@@ -8,13 +8,13 @@ use Rattle.fwd_msgpack.specs.Scans.Split.{Open, Broken}
 use Rattle.fwd_msgpack.proofs.Rows.{split_append}
 use Rattle.fwd_modes.specs.Acks.{ack_name}
 use Rattle.fwd_handshake.specs.declared.credentials.Login.{Login}
-use Rattle.fwd_chunks.specs.History.{Load}
+use Rattle.fwd_chunks.specs.History.{CarriedChunk}
 use Rattle.fwd_session.specs.declared.limits.TheConstants.{REPLY_LIMIT, REPLY_NESTING}
 use Rattle.fwd_session.specs.declared.fault.SessionFault.{SessionFault}
 use Rattle.fwd_session.specs.declared.fault.SessionFault.TheVariants as fault
 use Rattle.fwd_session.specs.declared.handshake.Handshake.{Handshake}
 use Rattle.fwd_session.specs.declared.handshake.Handshake.TheVariants.{AwaitsHelo, AwaitsPong, Done}
-use Rattle.fwd_session.specs.Evidence.{Accepted}
+use Rattle.fwd_session.specs.ServerAcks.{Accepted}
 use Rattle.fwd_session.specs.Said.{Word, Awaited, Said, awaited_behind, left_by, accepted_by, sending, acking, ack_word, word_of, word_then, said_of, said_in, silence, failing, reply_stream, rest_of}
 use Rattle.fwd_session.specs.Said.Word.{Skipped, Greets, Acks, Fails}
 use Rattle.fwd_session.specs.History.{is_open, is_done}
@@ -175,10 +175,10 @@ accepted_two : (f : Option SessionFault) (us vs : List (List ℕ)) (old : List A
     ++ accepted_by vs (live_chunks (map (falls_with (is_some f)) (left_by name_of us xs)))
     ≡ old ++ accepted_by (us ++ vs) (live_chunks xs)
 accepted_two f us vs old xs none =
-    let left : live_chunks (map (falls_with (is_some f)) (left_by name_of us xs)) ≡ left_by (λ (c : Load). c.name) us (live_chunks xs) =
-    ap live_chunks (falls-none f (left_by name_of us xs) none) ∙ sym (left_map (λ (c : Load). c.name) (λ (l : LiveLoaded). l.chunk) us xs) in
+    let left : live_chunks (map (falls_with (is_some f)) (left_by name_of us xs)) ≡ left_by (λ (c : CarriedChunk). c.name) us (live_chunks xs) =
+    ap live_chunks (falls-none f (left_by name_of us xs) none) ∙ sym (left_map (λ (c : CarriedChunk). c.name) (λ (l : LiveLoaded). l.chunk) us xs) in
     ap (λ cs. (old ++ accepted_by us (live_chunks xs)) ++ accepted_by vs cs) left
-    ∙ append_assoc old (accepted_by us (live_chunks xs)) (accepted_by vs (left_by (λ (c : Load). c.name) us (live_chunks xs)))
+    ∙ append_assoc old (accepted_by us (live_chunks xs)) (accepted_by vs (left_by (λ (c : CarriedChunk). c.name) us (live_chunks xs)))
     ∙ ap (λ more. old ++ more) (accepted_append us vs (live_chunks xs))
 
 takes_two : (s : LiveSession) (a b : Said) (x y : List ℕ) → a.fault ≡ None

@@ -5,11 +5,11 @@ use Rattle.std.specs.Arc.{arc_value}
 use Rattle.std.proofs.lemmas.Bool.Decides.{nat_tests}
 use Rattle.fwd_session.specs.declared.fault.SessionFault.{SessionFault}
 use Rattle.fwd_handshake.specs.declared.credentials.Login.{Login}
-use Rattle.fwd_chunks.specs.History.{Load}
+use Rattle.fwd_chunks.specs.History.{CarriedChunk}
 use Rattle.fwd_session.specs.declared.handshake.Handshake.{Handshake}
 use Rattle.fwd_session.specs.declared.hearing.Ack.{Ack}
 use Rattle.fwd_session.specs.declared.hearing.Hearing.{Hearing}
-use Rattle.fwd_session.specs.Flights.{Pending, awaited_of, live_pending}
+use Rattle.fwd_session.specs.Flights.{PendingChunk, awaited_of, live_pending}
 use Rattle.fwd_session.specs.Hearing.{IsAckOf, AreAcksOf, replies_of, shown}
 use Rattle.fwd_session.specs.Said.{Awaited, Said, names, without_first, left_by, accepted_by, accepted_for, said_in, reply_stream, rest_of}
 use Rattle.fwd_session.specs.Live.{LiveLoaded, LiveSession, falls_with, live_awaited, live_chunks, live_is_late, live_room, said_behind, session_takes, session_listens, session_hears, session_looks}
@@ -67,11 +67,11 @@ accepts_all acks s = record s {
   accepted = s.accepted ++ accepted_by (replies_of acks) (live_chunks s.carried);
 }
 
-abbrev pends : LiveLoaded → Pending
+abbrev pends : LiveLoaded → PendingChunk
 pends l = record { chunk = l.chunk; is_handed_on = eqb l.left 0 }
 
 -- the first of them, and then the others
-pub accepts-first : (s t : LiveSession) (a : Ack) (acks : List Ack) (c : Load) (server : ℕ)
+pub accepts-first : (s t : LiveSession) (a : Ack) (acks : List Ack) (c : CarriedChunk) (server : ℕ)
     → IsAckOf server (live_pending s.carried) a
     → slice_get (live_chunks s.carried) a.place ≡ Some c
     → t ≡ record s {
@@ -83,8 +83,8 @@ accepts-first s t a acks c server ack there is =
     let r = (arc_value a.acked).reply in
     let vs = replies_of acks in
     let test : LiveLoaded → Bool = λ l. names r l.chunk.name in
-    let of_chunk : Load → Bool = λ k. names r k.name in
-    let mine = first_map (λ (p : Pending). names r p.chunk.name) pends s.carried a.place ack.acked.one ack.acked.first in
+    let of_chunk : CarriedChunk → Bool = λ k. names r k.name in
+    let mine = first_map (λ (p : PendingChunk). names r p.chunk.name) pends s.carried a.place ack.acked.one ack.acked.first in
     let left : remove s.carried a.place ≡ without_first test s.carried = sym (first_without test s.carried a.place mine.0 mine.1) in
     let found : find of_chunk (live_chunks s.carried) ≡ Some c =
     find_map of_chunk (λ (l : LiveLoaded). l.chunk) s.carried
@@ -100,7 +100,7 @@ accepts-first s t a acks c server ack there is =
     })
 
 -- the others are of those that it leaves
-pub acks-left : (s t : LiveSession) (a : Ack) (acks : List Ack) (c : Load)
+pub acks-left : (s t : LiveSession) (a : Ack) (acks : List Ack) (c : CarriedChunk)
     → AreAcksOf s.setup.server (remove (live_pending s.carried) a.place) acks
     → t ≡ record s {
       carried = remove s.carried a.place;
@@ -113,11 +113,11 @@ acks-left s t a acks c are is =
 
 -- what is awaited of a session's chunks
 pub awaited_pending : (s : LiveSession) → awaited_of (live_pending s.carried) ≡ live_awaited s
-awaited_pending s = map_map (λ (p : Pending). let one : Awaited = record { name = p.chunk.name; is_handed_on = p.is_handed_on } in one) pends s.carried
+awaited_pending s = map_map (λ (p : PendingChunk). let one : Awaited = record { name = p.chunk.name; is_handed_on = p.is_handed_on } in one) pends s.carried
 
 -- what is heard while a session's chunks are awaited is what it says
 pub heard-said : {E : Type 0} (r : Result Hearing E) (s : LiveSession) (bytes : List ℕ)
-    (login : Login) (salt : List ℕ) (at : Handshake) (pending : List Pending)
+    (login : Login) (salt : List ℕ) (at : Handshake) (pending : List PendingChunk)
     → login ≡ s.setup.login → salt ≡ s.setup.salt → at ≡ s.handshake
     → pending ≡ live_pending s.carried
     → IfOk r (λ h. shown at h ≡ said_in login salt at (awaited_of pending) (reply_stream bytes))
@@ -128,7 +128,7 @@ heard-said (Ok h) s bytes login salt at pending l k a p same =
     ∙ (λ i. said_in (l i) (k i) (a i) ((ap awaited_of p ∙ awaited_pending s) i) (reply_stream bytes))
 
 pub said-same : (s : LiveSession) (bytes : List ℕ)
-    (login : Login) (salt : List ℕ) (at : Handshake) (pending : List Pending)
+    (login : Login) (salt : List ℕ) (at : Handshake) (pending : List PendingChunk)
     → login ≡ s.setup.login → salt ≡ s.setup.salt → at ≡ s.handshake
     → pending ≡ live_pending s.carried
     → said_in login salt at (awaited_of pending) (reply_stream bytes) ≡ said_behind s bytes
@@ -144,8 +144,8 @@ takes-room s said rest =
     let cs = live_chunks s.carried in
     let left = left_by (λ (l : LiveLoaded). l.chunk.name) vs s.carried in
     let down : length (map (falls_with (is_some said.fault)) left) ≡ length left = length_map (falls_with (is_some said.fault)) left in
-    let chunks : length left ≡ length (left_by (λ (c : Load). c.name) vs cs) =
-    sym (ap length (left_map (λ (c : Load). c.name) (λ (l : LiveLoaded). l.chunk) vs s.carried) ∙ length_map (λ (l : LiveLoaded). l.chunk) left) in
+    let chunks : length left ≡ length (left_by (λ (c : CarriedChunk). c.name) vs cs) =
+    sym (ap length (left_map (λ (c : CarriedChunk). c.name) (λ (l : LiveLoaded). l.chunk) vs s.carried) ∙ length_map (λ (l : LiveLoaded). l.chunk) left) in
     let both : length (map (falls_with (is_some said.fault)) left) + length (s.accepted ++ accepted_by vs cs) ≡ length s.carried + length s.accepted =
     omega (arith, down, chunks, left_length vs cs, length_map (λ (l : LiveLoaded). l.chunk) s.carried, length-append s.accepted (accepted_by vs cs)) in
     ap (λ n. s.setup.window - n) both

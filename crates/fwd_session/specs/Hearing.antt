@@ -8,10 +8,10 @@ use Rattle.fwd_session.specs.declared.hearing.Ack.{Ack}
 use Rattle.fwd_session.specs.declared.hearing.Hearing.{Hearing}
 use Rattle.fwd_session.specs.declared.verdict.Verdict.{Verdict}
 use Rattle.fwd_session.specs.declared.verdict.Verdict.TheVariants as verdict
-use Rattle.fwd_session.specs.Evidence.{IsBacked}
+use Rattle.fwd_session.specs.ServerAcks.{IsBacked}
 use Rattle.fwd_session.specs.Said.{Word, Said, names}
 use Rattle.fwd_session.specs.Said.Word.{Skipped, Greets, Acks, Fails}
-use Rattle.fwd_session.specs.Flights.{Pending}
+use Rattle.fwd_session.specs.Flights.{PendingChunk}
 
 -- ---- one value
 
@@ -34,32 +34,32 @@ pub record IsFirst {A : Type 0} (test : A → Bool) (xs : List A) (place : ℕ) 
   pub before : list_any test (take place xs) ≡ false
 
 -- a value acknowledges this one of the chunks that are awaited
-pub record IsAckedAt (pending : List Pending) (value : List ℕ) (place : ℕ) : Type 0 where
-  pub one : Pending
+pub record IsAckedAt (pending : List PendingChunk) (value : List ℕ) (place : ℕ) : Type 0 where
+  pub one : PendingChunk
   pub first : IsFirst (λ p. names value p.chunk.name) pending place one
   pub handed_on : one.is_handed_on ≡ true
   pub named : ack_name value ≡ Some one.chunk.name
 
 -- where a verdict says that a value acknowledges one, it does
-abbrev pub Points : List Pending → (value : List ℕ) → Verdict → Type 0
+abbrev pub Points : List PendingChunk → (value : List ℕ) → Verdict → Type 0
 Points pending value (verdict.Acks place) = IsAckedAt pending value place
 Points pending value _ = Unit {0}
 
 -- ---- many values
 
 -- an acknowledgement is of one of the chunks that are awaited
-pub record IsAckOf (server : ℕ) (pending : List Pending) (a : Ack) : Type 0 where
+pub record IsAckOf (server : ℕ) (pending : List PendingChunk) (a : Ack) : Type 0 where
   pub acked : IsAckedAt pending (arc_value a.acked).reply a.place
   pub backed : IsBacked server (arc_value a.acked) acked.one.chunk
 
 -- acknowledgements, each of one of those that are left by the ones before it
-abbrev pub AreAcksOf : (server : ℕ) → List Pending → List Ack → Type 0
+abbrev pub AreAcksOf : (server : ℕ) → List PendingChunk → List Ack → Type 0
 AreAcksOf server pending [] = Unit {0}
 AreAcksOf server pending (a ∷ acks) =
     IsAckOf server pending a × AreAcksOf server (remove pending a.place) acks
 
 -- the chunks that are awaited behind them
-abbrev pub pending_behind : List Ack → List Pending → List Pending
+abbrev pub pending_behind : List Ack → List PendingChunk → List PendingChunk
 pending_behind [] pending = pending
 pending_behind (a ∷ acks) pending = pending_behind acks (remove pending a.place)
 

@@ -6,13 +6,13 @@ use Rattle.fwd_msgpack.specs.Scans.{Split, values_of}
 use Rattle.fwd_msgpack.specs.Scans.Split.{Open, Broken}
 use Rattle.fwd_modes.specs.Acks.{ack_name}
 use Rattle.fwd_handshake.specs.declared.credentials.Login.{Login}
-use Rattle.fwd_chunks.specs.History.{Load}
+use Rattle.fwd_chunks.specs.History.{CarriedChunk}
 use Rattle.fwd_session.specs.declared.fault.SessionFault.{SessionFault}
 use Rattle.fwd_session.specs.declared.handshake.Handshake.{Handshake}
 use Rattle.fwd_session.specs.declared.handshake.Handshake.TheVariants.{AwaitsHelo, AwaitsPong, Done}
 use Rattle.fwd_session.specs.declared.told.SessionHeard.{SessionHeard}
 use Rattle.fwd_session.specs.declared.told.SessionHeard.TheVariants as told
-use Rattle.fwd_session.specs.Evidence.{Accepted, frame_of}
+use Rattle.fwd_session.specs.ServerAcks.{Accepted, frame_of}
 use Rattle.fwd_session.specs.Said.{Awaited, Said, left_by, accepted_by, out_of, silence, said_of, said_in, reply_stream, ended_by}
 
 -- what a session begins with: its server, what it proves to it, the salt of its PING, how long it
@@ -28,7 +28,7 @@ pub record Setup : Type 0 where
 -- a chunk that is not acknowledged: how many bytes had been appended through the last one of its
 -- frame, and when it was loaded
 pub record Loaded : Type 0 where
-  pub chunk : Load
+  pub chunk : CarriedChunk
   pub through : ℕ
   pub moment : ℕ
 
@@ -151,11 +151,11 @@ first_in [] = None
 first_in (x ∷ xs) = Some x
 
 -- the chunk that is taken out next: the one whose acknowledgement was accepted first
-abbrev pub acked : SessionHistory → Option Load
+abbrev pub acked : SessionHistory → Option CarriedChunk
 acked s = option_map (λ a. a.chunk) (first_in s.accepted)
 
 -- the chunks among these
-abbrev pub chunks_of : List Loaded → List Load
+abbrev pub chunks_of : List Loaded → List CarriedChunk
 chunks_of loaded = map (λ l. l.chunk) loaded
 
 -- the chunks whose acknowledgements a piece brings, in the order of their values
@@ -221,7 +221,7 @@ begins setup = record {
 }
 
 -- a chunk's frame is appended
-abbrev pub loads : SessionHistory → Load → ℕ → SessionHistory
+abbrev pub loads : SessionHistory → CarriedChunk → ℕ → SessionHistory
 loads s c now = record s {
   appended = s.appended ++ frame_of c;
   carried =

@@ -1,18 +1,18 @@
 -- What of a session's history still matters: how far its handshake came, the bytes that wait to be
 -- sent, those of an unfinished value, and its chunks.
 use Rattle.std.specs.Prelude.{ℕ, ◌+◌, ◌-◌, ◌==◌, Bool, true, false, not, ◌&&◌, List, [], ◌∷◌, ◌++◌, length, map, drop, Option, option_map, is_some, nat_lt, max, if◌then◌else◌}
-use Rattle.fwd_chunks.specs.History.{Load}
+use Rattle.fwd_chunks.specs.History.{CarriedChunk}
 use Rattle.fwd_session.specs.declared.handshake.Handshake.{Handshake}
 use Rattle.fwd_session.specs.declared.told.SessionHeard.{SessionHeard}
 use Rattle.fwd_session.specs.declared.told.SessionHeard.TheVariants as told
-use Rattle.fwd_session.specs.Evidence.{Accepted, frame_of}
+use Rattle.fwd_session.specs.ServerAcks.{Accepted, frame_of}
 use Rattle.fwd_session.specs.Said.{Awaited, Said, left_by, accepted_by, out_of, said_in, reply_stream, rest_of}
 use Rattle.fwd_session.specs.History.{Setup, Loaded, SessionHistory, first_handshake, handshake_of, is_free_for, is_overdue, to_send, told_of, waits_from, first_in}
 
 -- a chunk that is not acknowledged: how many bytes wait through the last one of its frame, which is
 -- handed on where none does; and since when it is waited for
 pub record LiveLoaded : Type 0 where
-  pub chunk : Load
+  pub chunk : CarriedChunk
   pub left : ℕ
   pub since : ℕ
 
@@ -67,7 +67,7 @@ abbrev pub live_has_chunk : LiveSession → Bool
 live_has_chunk s = nat_lt 0 (length s.carried + length s.accepted)
 
 -- the chunks among these
-abbrev pub live_chunks : List LiveLoaded → List Load
+abbrev pub live_chunks : List LiveLoaded → List CarriedChunk
 live_chunks loaded = map (λ l. l.chunk) loaded
 
 -- the chunks whose acknowledgement is awaited
@@ -97,7 +97,7 @@ live_is_late s now =
     is_overdue s.setup s.handshake (map (λ l. l.since) s.carried) (max s.moment now)
 
 -- the chunk that is taken out next: the one whose acknowledgement was accepted first
-abbrev pub live_acked : LiveSession → Option Load
+abbrev pub live_acked : LiveSession → Option CarriedChunk
 live_acked s = option_map (λ a. a.chunk) (first_in s.accepted)
 
 -- ---- what happens to it
@@ -117,7 +117,7 @@ session_begins setup = record {
 }
 
 -- a chunk's frame waits to be sent
-abbrev pub session_loads : LiveSession → Load → ℕ → LiveSession
+abbrev pub session_loads : LiveSession → CarriedChunk → ℕ → LiveSession
 session_loads s c now = record s {
   waiting = s.waiting ++ frame_of c;
   carried =

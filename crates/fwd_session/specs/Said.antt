@@ -12,13 +12,13 @@ use Rattle.fwd_handshake.specs.declared.verdict.HeloAnswer.TheVariants as helo
 use Rattle.fwd_handshake.specs.declared.verdict.PongVerdict.{PongVerdict}
 use Rattle.fwd_handshake.specs.declared.verdict.PongVerdict.TheVariants as pong
 use Rattle.fwd_handshake.specs.Verdicts.{helo_answer, pong_verdict}
-use Rattle.fwd_chunks.specs.History.{Load}
+use Rattle.fwd_chunks.specs.History.{CarriedChunk}
 use Rattle.fwd_session.specs.declared.limits.TheConstants.{REPLY_LIMIT, REPLY_NESTING}
 use Rattle.fwd_session.specs.declared.fault.SessionFault.{SessionFault}
 use Rattle.fwd_session.specs.declared.fault.SessionFault.TheVariants as fault
 use Rattle.fwd_session.specs.declared.handshake.Handshake.{Handshake}
 use Rattle.fwd_session.specs.declared.handshake.Handshake.TheVariants.{AwaitsHelo, AwaitsPong, Done}
-use Rattle.fwd_session.specs.Evidence.{Accepted}
+use Rattle.fwd_session.specs.ServerAcks.{Accepted}
 
 -- ---- which chunk a value names
 
@@ -43,13 +43,13 @@ left_by name_of [] xs = xs
 left_by name_of (v ∷ vs) xs = left_by name_of vs (without_first (λ x. names v (name_of x)) xs)
 
 -- a chunk is accepted for a value, if there is one
-abbrev pub accepted_for : (value : List ℕ) → Option Load → List Accepted
+abbrev pub accepted_for : (value : List ℕ) → Option CarriedChunk → List Accepted
 accepted_for value None = []
 accepted_for value (Some c) = record { chunk = c; reply = value } ∷ []
 
 -- the chunks that values acknowledge, in the order of the values: each the first that its value
 -- names of those that are left
-abbrev pub accepted_by : (values : List (List ℕ)) → List Load → List Accepted
+abbrev pub accepted_by : (values : List (List ℕ)) → List CarriedChunk → List Accepted
 accepted_by [] chunks = []
 accepted_by (v ∷ vs) chunks =
     accepted_for v (find (λ c. names v c.name) chunks)

@@ -11,7 +11,7 @@ ghost use Rattle.fwd_chunks.specs.Pieces.{parts_left};
 ghost use Rattle.fwd_chunks.specs.Endings.{ends_left};
 
 use fwd_base::Bytes;
-use fwd_chunks::{Body, Carried, Ends, Parts};
+use fwd_chunks::{Body, BodyParts, Carried, EntryEnds};
 use std::alloc::{AllocError, Global};
 use std::marker::Model;
 
@@ -27,9 +27,9 @@ pub struct Acked {
 }
 
 impl Model for Acked {
-    ghost use Rattle.fwd_session.specs.Evidence.{Evidence};
+    ghost use Rattle.fwd_session.specs.ServerAcks.{ServerAck};
 
-    ghost Value = { Evidence };
+    ghost Value = { ServerAck };
 
     ghost view = { λ a. record {
       number = a.number;
@@ -81,7 +81,7 @@ impl Acked {
 
     /// The entries as they were sent, one after the other, in the pieces that they lie in. Each
     /// piece has a byte.
-    pub fn parts(&self) -> Parts<'_>
+    pub fn parts(&self) -> BodyParts<'_>
         ensures joined { concat (parts_left result) ≡ concat self.now.entries }
         ensures full { AreFull (parts_left result) }
     {
@@ -89,7 +89,7 @@ impl Acked {
     }
 
     /// Where each entry ends, in bytes from the front of the first.
-    pub fn ends(&self) -> Ends<'_>
+    pub fn ends(&self) -> EntryEnds<'_>
         ensures { ends_left result ≡ ends_of self.now.entries }
     {
         self.entries.ends()

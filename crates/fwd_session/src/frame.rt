@@ -15,10 +15,10 @@ ghost use Rattle.std.specs.Prelude.{
   IfSome,
 };
 ghost use Rattle.fwd_chunks.specs.Lending.{IsLent};
-ghost use Rattle.fwd_session.specs.Evidence.{frame_of};
+ghost use Rattle.fwd_session.specs.ServerAcks.{frame_of};
 
 use crate::written::Written;
-use fwd_chunks::{Carried, Pieces, Unsent};
+use fwd_chunks::{Carried, SendCursor, WriteSlices};
 use fwd_modes::{write_chunk_head, write_chunk_tail};
 use std::alloc::{AllocError, Global};
 use std::marker::Model;
@@ -28,7 +28,7 @@ use std::marker::Model;
 #[derive(Drop)]
 pub(crate) struct Frame {
     head: Written,
-    entries: Unsent,
+    entries: SendCursor,
     tail: Written,
 }
 
@@ -122,7 +122,7 @@ impl Frame {
 
     /// Puts the pieces that the bytes that are left lie in behind others, as many as there is place
     /// for.
-    pub(crate) fn lend<'a>(&'a self, pieces: Pieces<'a>) -> Pieces<'a>
+    pub(crate) fn lend<'a>(&'a self, pieces: WriteSlices<'a>) -> WriteSlices<'a>
         ensures { IsLent pieces.entry self.now result }
     {
         let head = pieces.with(self.head.as_slice());

@@ -35,9 +35,9 @@ pub(crate) struct InFlight {
 impl Model for InFlight {
     ghost use Rattle.std.specs.Prelude.{◌≡◌, ◌≤◌, List, length, vec_capacity};
     ghost use Rattle.fwd_session.specs.declared.limits.TheConstants.{WINDOW_LIMIT};
-    ghost use Rattle.fwd_session.specs.Flights.{Flight, flights_of};
+    ghost use Rattle.fwd_session.specs.Flights.{InFlightChunk, flights_of};
 
-    ghost Value = { List Flight };
+    ghost Value = { List InFlightChunk };
 
     ghost view = { λ f. flights_of f.chunks.items f.since.items };
 

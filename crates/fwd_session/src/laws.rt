@@ -17,7 +17,7 @@ ghost use Rattle.std.specs.List.{concat, AllByRecursion};
 ghost use Rattle.fwd_msgpack.specs.declared.fault.ScanFault.{ScanFault};
 ghost use Rattle.fwd_msgpack.specs.Scans.{Whole, Short, Bad, first_of};
 ghost use Rattle.fwd_handshake.specs.declared.credentials.Login.{Login};
-ghost use Rattle.fwd_chunks.specs.History.{Load};
+ghost use Rattle.fwd_chunks.specs.History.{CarriedChunk};
 ghost use Rattle.fwd_session.specs.declared.fault.SessionFault.{SessionFault};
 ghost use Rattle.fwd_session.specs.declared.fault.SessionFault.TheVariants.{BadReply};
 ghost use Rattle.fwd_session.specs.declared.handshake.Handshake.{Handshake};
@@ -113,7 +113,7 @@ pub fn live_follows()
         piece_told s bytes ≡ live_piece_told (live_session s) bytes }
     ensures out { (s : SessionHistory) (bytes : List ℕ) → IsSane s →
         piece_out s bytes ≡ live_piece_out (live_session s) bytes }
-    ensures loads { (s : SessionHistory) (c : Load) (now : ℕ) → IsSane s → s.down ≡ false
+    ensures loads { (s : SessionHistory) (c : CarriedChunk) (now : ℕ) → IsSane s → s.down ≡ false
         → live_session (loads s c now) ≡ session_loads (live_session s) c now }
     ensures sends { (s : SessionHistory) (count : ℕ) →
         live_session (sends s count) ≡ session_sends (live_session s) count }
@@ -128,7 +128,7 @@ pub fn live_follows()
 /// What holds of every session's history, at the beginning and after each step.
 pub fn stays_sane()
     ensures begins { (setup : Setup) → IsSane (begins setup) }
-    ensures loads { (s : SessionHistory) (c : Load) (now : ℕ) → IsSane s
+    ensures loads { (s : SessionHistory) (c : CarriedChunk) (now : ℕ) → IsSane s
         → IsSane (loads s c now) }
     ensures sends { (s : SessionHistory) (count : ℕ) → IsSane s → s.down ≡ false →
         count ≤ length (to_send s) → IsSane (sends s count) }
@@ -143,8 +143,8 @@ pub fn stays_sane()
 /// load on, through the byte that its chunk tells. The session is loaded only where it is ready.
 pub fn stays_framed()
     ensures begins { (setup : Setup) → IsFramed (begins setup) }
-    ensures loads { (s : SessionHistory) (c : Load) (now : ℕ) → IsFramed s → is_ready s ≡ true
-        → IsFramed (loads s c now) }
+    ensures loads { (s : SessionHistory) (c : CarriedChunk) (now : ℕ) → IsFramed s
+        → is_ready s ≡ true → IsFramed (loads s c now) }
     ensures sends { (s : SessionHistory) (count : ℕ) → IsFramed s → IsFramed (sends s count) }
     ensures hears { (s : SessionHistory) (bytes : List ℕ) → IsSane s → IsFramed s
         → IsFramed (hears s bytes) }

@@ -29,7 +29,7 @@ ghost use Rattle.fwd_session.specs.Hearing.{
   IsAckOf,
   AreAcksOf,
 };
-ghost use Rattle.fwd_chunks.specs.History.{Load};
+ghost use Rattle.fwd_chunks.specs.History.{CarriedChunk};
 ghost use Rattle.fwd_session.specs.Flights.{live_pending};
 ghost use Rattle.fwd_session.specs.Said.{AsksForNothing, left_by, accepted_by, out_of, reply_stream, rest_of};
 ghost use Rattle.fwd_session.specs.History.{is_done, told_of};
@@ -177,7 +177,8 @@ impl Session {
     /// A chunk was acknowledged.
     fn accept(&mut self, ack: Ack)
         requires { IsAckOf self.old.setup.server (live_pending self.old.carried) ack }
-        ensures { (chunk : Load) × (slice_get (live_chunks self.old.carried) ack.place ≡ Some chunk)
+        ensures { (chunk : CarriedChunk)
+            × (slice_get (live_chunks self.old.carried) ack.place ≡ Some chunk)
             × (self.new ≡ record self.old {
               carried = remove self.old.carried ack.place;
               accepted = self.old.accepted

@@ -18,11 +18,11 @@ ghost use Rattle.std.specs.Prelude.{
 };
 ghost use Rattle.std.specs.List.{concat};
 ghost use Rattle.fwd_chunks.specs.Lending.{IsLent};
-ghost use Rattle.fwd_session.specs.Evidence.{frame_of};
+ghost use Rattle.fwd_session.specs.ServerAcks.{frame_of};
 ghost use Rattle.fwd_session.specs.Flights.{unsent_after};
 
 use crate::frame::Frame;
-use fwd_chunks::{Carried, Pieces};
+use fwd_chunks::{Carried, WriteSlices};
 use std::alloc::{AllocError, Global};
 use std::collections::VecDeque;
 use std::marker::Model;
@@ -172,7 +172,7 @@ impl Outbox {
 
     /// Puts the pieces that the bytes that wait lie in behind others, as many as there is place
     /// for.
-    pub(crate) fn lend<'a>(&'a self, pieces: Pieces<'a>) -> Pieces<'a>
+    pub(crate) fn lend<'a>(&'a self, pieces: WriteSlices<'a>) -> WriteSlices<'a>
         ensures { IsLent pieces.entry (concat self.now) result }
     {
         let mut lent = pieces;

@@ -29,10 +29,10 @@ ghost use Rattle.std.specs.Prelude.{
 ghost use Rattle.std.specs.Option.{option_map};
 ghost use Rattle.std.specs.List.{concat};
 ghost use Rattle.std.specs.Arc.{arc_value};
-ghost use Rattle.fwd_chunks.specs.declared.pieces.TheConstants.{PIECE_LIMIT};
+ghost use Rattle.fwd_chunks.specs.declared.write_slices.TheConstants.{PIECE_LIMIT};
 ghost use Rattle.fwd_chunks.specs.Lending.{AreSome};
 ghost use Rattle.fwd_session.specs.declared.limits.TheConstants.{WINDOW_LIMIT};
-ghost use Rattle.fwd_session.specs.Evidence.{reply_in, IsBacked};
+ghost use Rattle.fwd_session.specs.ServerAcks.{reply_in, IsBacked};
 ghost use Rattle.fwd_session.specs.History.{is_done, is_first_over, is_overdue, first_in};
 ghost use Rattle.fwd_session.specs.Live.{
   falls_with,
@@ -59,7 +59,7 @@ use crate::outbox::Outbox;
 use crate::salt::OwnedSalt;
 use crate::terms::AckTerms;
 use crate::written::Written;
-use fwd_chunks::{Carried, Pieces};
+use fwd_chunks::{Carried, WriteSlices};
 use fwd_handshake::Login;
 use std::alloc::{AllocFailed, Global};
 use std::collections::VecDeque;
@@ -260,13 +260,13 @@ impl Session {
 
     /// The first of the bytes that wait to be sent, in the pieces that they lie in: four at most,
     /// each with a byte, and none only where no byte waits.
-    pub fn pieces(&self) -> Pieces<'_>
+    pub fn pieces(&self) -> WriteSlices<'_>
         ensures front { concat result ≡ take (length (concat result)) self.now.waiting }
         ensures some { 0 < length self.now.waiting → 0 < length (concat result) }
         ensures each { AreSome result }
         ensures few { length result ≤ PIECE_LIMIT }
     {
-        let greeting = Pieces::none().with(self.greeting.as_slice());
+        let greeting = WriteSlices::none().with(self.greeting.as_slice());
         self.frames.lend(greeting)
     }
 

@@ -17,7 +17,7 @@ ghost use Rattle.std.specs.Prelude.{
 };
 ghost use Rattle.std.specs.List.{list_any};
 ghost use Rattle.std.specs.Str.{bytes_eq};
-ghost use Rattle.fwd_session.specs.Flights.{Pending, pending_of};
+ghost use Rattle.fwd_session.specs.Flights.{PendingChunk, pending_of};
 ghost use Rattle.fwd_session.specs.Hearing.{IsFirst};
 
 use crate::limits::WINDOW_LIMIT;
@@ -39,9 +39,9 @@ pub(crate) struct Unacked<'a> {
 impl<'a> Model for Unacked<'a> {
     ghost use Rattle.std.specs.Prelude.{◌<◌, List, length, map};
     ghost use Rattle.std.specs.List.{AllByRecursion};
-    ghost use Rattle.fwd_session.specs.Flights.{Pending, pending_at};
+    ghost use Rattle.fwd_session.specs.Flights.{PendingChunk, pending_at};
 
-    ghost Value = { List Pending };
+    ghost Value = { List PendingChunk };
 
     ghost view = { λ u. map (pending_at u.handed_on u.chunks.now) u.left.items };
 
@@ -81,7 +81,7 @@ impl<'a> Unacked<'a> {
 
     /// The place of the first with this name.
     pub(crate) fn find(&self, name: &[u8]) -> Option<usize>
-        ensures some { IfSome result (λ place. (one : Pending)
+        ensures some { IfSome result (λ place. (one : PendingChunk)
             × IsFirst (λ p. bytes_eq name.now p.chunk.name) self.now place one) }
         ensures none { IfNone result
             (find (λ p. bytes_eq name.now p.chunk.name) self.now ≡ None) }

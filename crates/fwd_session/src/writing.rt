@@ -1,7 +1,7 @@
 //! The frame of a chunk, written out.
 
 ghost use Rattle.std.specs.Prelude.{◌≡◌, IfOk};
-ghost use Rattle.fwd_session.specs.Evidence.{frame_of};
+ghost use Rattle.fwd_session.specs.ServerAcks.{frame_of};
 
 use fwd_chunks::Carried;
 use fwd_modes::{write_chunk_head, write_chunk_tail};

@@ -6,8 +6,8 @@ use Rattle.std.specs.Net.Reader.{read_number, read_octet, read_ipv4, read_segmen
 use Rattle.hex.specs.Hex.{decode_pairs}
 use Rattle.toml.specs.Data.{string, integer, table, no_members, member}
 use Rattle.fwd_settings.specs.declared.fault.SettingsFault.TheVariants as faults
-use Rattle.fwd_settings.specs.declared.place.Place.TheVariants.{Output, Server}
-use Rattle.fwd_settings.specs.declared.place.Flaw.TheVariants.{WrongKind, OutOfRange}
+use Rattle.fwd_settings.specs.declared.table_path.TablePath.TheVariants.{Output, Server}
+use Rattle.fwd_settings.specs.declared.table_path.Flaw.TheVariants.{WrongKind, OutOfRange}
 use Rattle.fwd_settings.specs.Addresses.{v4_from, v6_from, socket_of, address_of_text}
 use Rattle.fwd_settings.specs.Faults.{key_under, fault_text}
 use Rattle.fwd_settings.specs.Kinds.{number_flaw, flag_flaw, text_flaw, digits_flaw, fault_at, setting_at, number_key, text_key, optional_text_key, required_address_key}

@@ -7,8 +7,8 @@ use Rattle.std.proofs.lemmas.List.{length-map}
 use Rattle.std.proofs.lemmas.List.Folds.{list_all-map}
 use Rattle.toml.specs.Data.{Data, string, integer, float, boolean, datetime, array, table, Members, no_members, get_member, as_str}
 use Rattle.fwd_settings.specs.declared.fault.SettingsFault.{SettingsFault}
-use Rattle.fwd_settings.specs.declared.place.Place.{Place}
-use Rattle.fwd_settings.specs.declared.place.Place.TheVariants.{Root, Relay, User, Output}
+use Rattle.fwd_settings.specs.declared.table_path.TablePath.{TablePath}
+use Rattle.fwd_settings.specs.declared.table_path.TablePath.TheVariants.{Root, Relay, User, Output}
 use Rattle.fwd_settings.specs.declared.settings.Settings.{Settings}
 use Rattle.fwd_settings.specs.declared.settings.ServerSettings.{ServerSettings}
 use Rattle.fwd_settings.specs.Faults.{fault_with, key_under}
@@ -24,7 +24,7 @@ unmapped : {A B : Type 0} (f : A → B) (x : Option A) → option_map f x ≡ No
 unmapped f None h = refl
 unmapped f (Some a) h = absurd cc
 
-no_flaw : {A : Type 0} (place : Place) (members : Members) (key : Key A)
+no_flaw : {A : Type 0} (place : TablePath) (members : Members) (key : Key A)
     → fault_at place members key ≡ None → key.flaw (get_member key.name members) ≡ None
 unfolding fault_at
 no_flaw place members key h = unmapped (λ flaw. fault_with flaw (key_under place key.name)) (key.flaw (get_member key.name members)) h
@@ -60,7 +60,7 @@ number_given least most default (Some (datetime x)) d h = absurd cc
 number_given least most default (Some (array x)) d h = absurd cc
 number_given least most default (Some (table x)) d h = absurd cc
 
-number_within : (place : Place) (members : Members) (name : List ℕ) (least most default : ℕ)
+number_within : (place : TablePath) (members : Members) (name : List ℕ) (least most default : ℕ)
     → is_within least most default ≡ true
     → fault_at place members (number_key name least most default) ≡ None
     → is_within least most (setting_at members (number_key name least most default)) ≡ true
@@ -80,7 +80,7 @@ text_given least most default (Some (datetime x)) d h = absurd cc
 text_given least most default (Some (array x)) d h = absurd cc
 text_given least most default (Some (table x)) d h = absurd cc
 
-text_within : (place : Place) (members : Members) (name : List ℕ) (least most : ℕ)
+text_within : (place : TablePath) (members : Members) (name : List ℕ) (least most : ℕ)
     (default : List ℕ) → is_within least most (length default) ≡ true
     → fault_at place members (text_key name least most default) ≡ None
     → is_within least most (length (setting_at members (text_key name least most default))) ≡ true
@@ -98,7 +98,7 @@ list_given most (Some (boolean x)) h = absurd cc
 list_given most (Some (datetime x)) h = absurd cc
 list_given most (Some (table x)) h = absurd cc
 
-list_within : (place : Place) (members : Members) (name : List ℕ) (most : ℕ)
+list_within : (place : TablePath) (members : Members) (name : List ℕ) (most : ℕ)
     → fault_at place members (required_list_key name most) ≡ None
     → is_within 1 most (length (setting_at members (required_list_key name most))) ≡ true
 unfolding setting_at required_list_key
@@ -115,7 +115,7 @@ key_given (Some (datetime x)) h = absurd cc
 key_given (Some (array x)) h = absurd cc
 key_given (Some (table x)) h = absurd cc
 
-key_within : (place : Place) (members : Members) → fault_at place members shared_key ≡ None
+key_within : (place : TablePath) (members : Members) → fault_at place members shared_key ≡ None
     → key_in_range (setting_at members shared_key) ≡ true
 unfolding setting_at optional_text_key
 key_within place members h = key_given (get_member (codes "shared_key") members) (no_flaw place members shared_key h)
@@ -132,7 +132,7 @@ limit_given (Some (datetime x)) h = absurd cc
 limit_given (Some (array x)) h = absurd cc
 limit_given (Some (table x)) h = absurd cc
 
-limit_within : (place : Place) (members : Members) → fault_at place members idle_limit ≡ None
+limit_within : (place : TablePath) (members : Members) → fault_at place members idle_limit ≡ None
     → limit_in_range (setting_at members idle_limit) ≡ true
 unfolding setting_at optional_number_key
 limit_within place members h = limit_given (get_member (codes "idle_limit") members) (no_flaw place members idle_limit h)
@@ -149,7 +149,7 @@ required_given least most (Some (datetime x)) h = absurd cc
 required_given least most (Some (array x)) h = absurd cc
 required_given least most (Some (table x)) h = absurd cc
 
-required_within : (place : Place) (members : Members) (name : List ℕ) (least most : ℕ)
+required_within : (place : TablePath) (members : Members) (name : List ℕ) (least most : ℕ)
     → fault_at place members (required_text_key name least most) ≡ None
     → is_within least most (length (setting_at members (required_text_key name least most))) ≡ true
 unfolding setting_at required_text_key

@@ -5,10 +5,10 @@ use Rattle.std.specs.List.{list_all}
 use Rattle.toml.specs.Data.{Data, string, integer, float, boolean, datetime, array, table, Members, no_members, get_member}
 use Rattle.fwd_settings.specs.declared.fault.SettingsFault.{SettingsFault}
 use Rattle.fwd_settings.specs.declared.fault.SettingsFault.TheVariants.{Memory, Unreadable, NotToml, Missing, WrongKind, OutOfRange, Unknown, BadPattern}
-use Rattle.fwd_settings.specs.declared.place.Place.{Place}
-use Rattle.fwd_settings.specs.declared.place.Place.TheVariants.{Relay, User, Output, Server}
-use Rattle.fwd_settings.specs.declared.place.Flaw.{Flaw}
-use Rattle.fwd_settings.specs.declared.place.Flaw.TheVariants as flaws
+use Rattle.fwd_settings.specs.declared.table_path.TablePath.{TablePath}
+use Rattle.fwd_settings.specs.declared.table_path.TablePath.TheVariants.{Relay, User, Output, Server}
+use Rattle.fwd_settings.specs.declared.table_path.Flaw.{Flaw}
+use Rattle.fwd_settings.specs.declared.table_path.Flaw.TheVariants as flaws
 use Rattle.fwd_settings.specs.declared.settings.Settings.{Settings}
 use Rattle.fwd_settings.specs.Faults.{fault_with, key_under, own_key}
 use Rattle.fwd_settings.specs.Kinds.{Key, each, fault_at}
@@ -36,7 +36,7 @@ flawed (Some flaws.WrongKind) key = refl
 flawed (Some flaws.OutOfRange) key = refl
 flawed (Some flaws.BadPattern) key = refl
 
-at_key : {A : Type 0} (place : Place) (members : Members) (key : Key A)
+at_key : {A : Type 0} (place : TablePath) (members : Members) (key : Key A)
     → of_text (fault_at place members key) ≡ true
 unfolding fault_at
 at_key place members key = flawed (key.flaw (get_member key.name members)) (key_under place key.name)

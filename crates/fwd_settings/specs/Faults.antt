@@ -3,10 +3,10 @@ use Rattle.std.specs.Prelude.{ℕ, List, ◌++◌, codes}
 use Rattle.std.specs.Fmt.{decimal}
 use Rattle.fwd_settings.specs.declared.fault.SettingsFault.{SettingsFault}
 use Rattle.fwd_settings.specs.declared.fault.SettingsFault.TheVariants.{Memory, Unreadable, NotToml, Missing, WrongKind, OutOfRange, Unknown, BadPattern}
-use Rattle.fwd_settings.specs.declared.place.Place.{Place}
-use Rattle.fwd_settings.specs.declared.place.Place.TheVariants.{Root, Relay, User, Output, Server}
-use Rattle.fwd_settings.specs.declared.place.Flaw.{Flaw}
-use Rattle.fwd_settings.specs.declared.place.Flaw.TheVariants as flaws
+use Rattle.fwd_settings.specs.declared.table_path.TablePath.{TablePath}
+use Rattle.fwd_settings.specs.declared.table_path.TablePath.TheVariants.{Root, Relay, User, Output, Server}
+use Rattle.fwd_settings.specs.declared.table_path.Flaw.{Flaw}
+use Rattle.fwd_settings.specs.declared.table_path.Flaw.TheVariants as flaws
 
 -- the text of a fault
 abbrev pub fault_text : SettingsFault → List ℕ
@@ -20,7 +20,7 @@ fault_text (Unknown key) = codes "unknown " ++ key
 fault_text (BadPattern key) = codes "bad pattern " ++ key
 
 -- the key of a table
-abbrev pub own_key : Place → List ℕ
+abbrev pub own_key : TablePath → List ℕ
 own_key Root = codes ""
 own_key Relay = codes "relay"
 own_key (User user) = codes "relay.user[" ++ decimal user ++ codes "]"
@@ -29,7 +29,7 @@ own_key (Server output server) =
     codes "output[" ++ decimal output ++ codes "].server[" ++ decimal server ++ codes "]"
 
 -- the key of a name in a table
-abbrev pub key_under : Place → List ℕ → List ℕ
+abbrev pub key_under : TablePath → List ℕ → List ℕ
 key_under Root name = name
 key_under place name = own_key place ++ (codes "." ++ name)
 

@@ -6,7 +6,7 @@ use Rattle.std.specs.declared.net.socket_addr.SocketAddr.{SocketAddr}
 use Rattle.toml.specs.Data.{Data, table, Members, no_members, get_member, as_table}
 use Rattle.fwd_settings.specs.declared.fault.SettingsFault.{SettingsFault}
 use Rattle.fwd_settings.specs.declared.fault.SettingsFault.TheVariants.{WrongKind, OutOfRange}
-use Rattle.fwd_settings.specs.declared.place.Place.TheVariants.{Relay, User, Output, Server}
+use Rattle.fwd_settings.specs.declared.table_path.TablePath.TheVariants.{Relay, User, Output, Server}
 use Rattle.fwd_settings.specs.declared.settings.RelaySettings.{RelaySettings}
 use Rattle.fwd_settings.specs.declared.settings.UserSettings.{UserSettings}
 use Rattle.fwd_settings.specs.declared.settings.OutputSettings.{OutputSettings}

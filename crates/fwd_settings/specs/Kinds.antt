@@ -8,9 +8,9 @@ use Rattle.hex.specs.Hex.{decode_sized}
 use Rattle.fwd_match.specs.Verdicts.{Verdict, Good, Bad, verdict}
 use Rattle.fwd_settings.specs.declared.fault.SettingsFault.{SettingsFault}
 use Rattle.fwd_settings.specs.declared.fault.SettingsFault.TheVariants.{Memory}
-use Rattle.fwd_settings.specs.declared.place.Place.{Place}
-use Rattle.fwd_settings.specs.declared.place.Flaw.{Flaw}
-use Rattle.fwd_settings.specs.declared.place.Flaw.TheVariants.{Missing, WrongKind, OutOfRange, BadPattern}
+use Rattle.fwd_settings.specs.declared.table_path.TablePath.{TablePath}
+use Rattle.fwd_settings.specs.declared.table_path.Flaw.{Flaw}
+use Rattle.fwd_settings.specs.declared.table_path.Flaw.TheVariants.{Missing, WrongKind, OutOfRange, BadPattern}
 use Rattle.fwd_settings.specs.declared.settings.WhenFull.{WhenFull}
 use Rattle.fwd_settings.specs.declared.settings.WhenFull.TheVariants.{Close, Wait}
 use Rattle.fwd_settings.specs.Addresses.{address_of_text, nowhere}
@@ -262,7 +262,7 @@ each what number (value ∷ more) = what number value ∷ each what (number + 1)
 -- ---- a key in a table
 
 -- the fault of a key in a table, if there is one
-unfoldable pub fault_at : {A : Type 0} → Place → Members → Key A → Option SettingsFault
+unfoldable pub fault_at : {A : Type 0} → TablePath → Members → Key A → Option SettingsFault
 fault_at place members key =
     option_map (λ flaw.
     fault_with flaw (key_under place key.name)) (key.flaw (get_member key.name members))
@@ -278,7 +278,7 @@ Answers fault setting (Ok answer) = (fault ≡ None) × (answer ≡ setting)
 Answers fault setting (Err told) = told ≢ Memory → fault ≡ Some told
 
 -- a key was read from a table: what it sets, or its fault
-abbrev pub Reads : {A : Type 0} → Place → Members → Key A → Result A SettingsFault
+abbrev pub Reads : {A : Type 0} → TablePath → Members → Key A → Result A SettingsFault
     → Type 0
 Reads place members key result =
     Answers (fault_at place members key) (setting_at members key) result

@@ -7,8 +7,8 @@ use Rattle.std.specs.Cmp.Lexicographic.{slice_cmp}
 use Rattle.toml.specs.Data.{Data, Members, no_members, member}
 use Rattle.fwd_settings.specs.declared.fault.SettingsFault.{SettingsFault}
 use Rattle.fwd_settings.specs.declared.fault.SettingsFault.TheVariants.{Unknown}
-use Rattle.fwd_settings.specs.declared.place.Place.{Place}
-use Rattle.fwd_settings.specs.declared.place.Place.TheVariants.{Root, Relay, User, Output, Server}
+use Rattle.fwd_settings.specs.declared.table_path.TablePath.{TablePath}
+use Rattle.fwd_settings.specs.declared.table_path.TablePath.TheVariants.{Root, Relay, User, Output, Server}
 use Rattle.fwd_settings.specs.Faults.{key_under}
 use Rattle.fwd_settings.specs.Kinds.{each, list_in}
 use Rattle.fwd_settings.specs.Keys.{table_in, table_of, root_names, relay_names, user_names, output_names, server_names}
@@ -23,7 +23,7 @@ abbrev pub is_unknown : List (List ℕ) → List ℕ → Bool
 is_unknown names name = not (list_any (λ known. bytes_eq known name) names)
 
 -- the keys of a table that are none of these names
-abbrev pub unknown_under : Place → List (List ℕ) → Members → List (List ℕ)
+abbrev pub unknown_under : TablePath → List (List ℕ) → Members → List (List ℕ)
 unknown_under place names members =
     map (key_under place) (filter (is_unknown names) (names_in members))
 

@@ -5,7 +5,7 @@ use Rattle.toml.specs.Data.{Data, table, Members, no_members, get_member}
 use Rattle.toml.specs.Parse.{parse_document}
 use Rattle.fwd_settings.specs.declared.fault.SettingsFault.{SettingsFault}
 use Rattle.fwd_settings.specs.declared.fault.SettingsFault.TheVariants.{NotToml, WrongKind}
-use Rattle.fwd_settings.specs.declared.place.Place.TheVariants.{Root, Relay}
+use Rattle.fwd_settings.specs.declared.table_path.TablePath.TheVariants.{Root, Relay}
 use Rattle.fwd_settings.specs.declared.settings.Settings.{Settings}
 use Rattle.fwd_settings.specs.Faults.{own_key}
 use Rattle.fwd_settings.specs.Kinds.{each, fault_at, setting_at}

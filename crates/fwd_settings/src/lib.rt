@@ -4,13 +4,13 @@
 mod fault;
 mod laws;
 mod output;
-mod place;
 pub mod ranges;
 mod read;
 mod relay;
 mod section;
 mod server;
 mod settings;
+mod table_path;
 mod unknown;
 mod user;
 mod values;

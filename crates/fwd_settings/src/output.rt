@@ -7,7 +7,6 @@ ghost use Rattle.fwd_settings.specs.Kinds.{Answers, each};
 ghost use Rattle.fwd_settings.specs.Keys.{first, output_fault, output_settings, output_table, size_table, output_sizes, wait_table, output_waits, login_table, output_login, list_table, servers_in};
 
 use crate::fault::SettingsFault;
-use crate::place::{Flaw, Place};
 use crate::ranges::{
     ACK_WAIT_DEFAULT, CHUNK_LIMIT_DEFAULT, CHUNK_LIMIT_MAX, FLUSH_INTERVAL_DEFAULT, NAME_MAX,
     RETRY_WAIT_DEFAULT, SERVERS_MAX, SHARED_KEY_MAX, TOTAL_LIMIT_DEFAULT, TOTAL_LIMIT_MAX,
@@ -16,6 +15,7 @@ use crate::ranges::{
 use crate::section::Section;
 use crate::server::{check_usable, servers_of};
 use crate::settings::{OutputSettings, ServerSettings};
+use crate::table_path::{Flaw, TablePath};
 use fwd_base::{Seq, Text};
 use std::alloc::Global;
 use toml::{Table, Value};
@@ -71,7 +71,7 @@ fn sizes_in(alloc: Global, output: usize, table: &Table) -> Result<Sizes, Settin
     ensures { let members = table_view table.now in
         Answers (first (size_table output members)) (output_sizes members) result }
 {
-    let place = Place::Output(output);
+    let place = TablePath::Output(output);
     let section = Section { place, table };
     let workers = section.count(alloc, "workers", 1, WORKERS_MAX, WORKERS_DEFAULT)?;
     let chunk_limit = section.number(
@@ -100,7 +100,7 @@ fn waits_in(alloc: Global, output: usize, table: &Table) -> Result<Waits, Settin
     ensures { let members = table_view table.now in
         Answers (first (wait_table output members)) (output_waits members) result }
 {
-    let place = Place::Output(output);
+    let place = TablePath::Output(output);
     let section = Section { place, table };
     let flush_interval = section.number(
         alloc,
@@ -127,7 +127,7 @@ fn login_in(alloc: Global, output: usize, table: &Table) -> Result<Login, Settin
     ensures { let members = table_view table.now in
         Answers (first (login_table output members)) (output_login members) result }
 {
-    let place = Place::Output(output);
+    let place = TablePath::Output(output);
     let section = Section { place, table };
     let hostname = section.text(alloc, "hostname", 1, NAME_MAX, "relay")?;
     let shared_key = section.optional_text(alloc, "shared_key", 1, SHARED_KEY_MAX)?;
@@ -151,7 +151,7 @@ fn servers_in(
     ensures { let members = table_view table.now in
         Answers (first (list_table output members)) (servers_in members) result }
 {
-    let place = Place::Output(output);
+    let place = TablePath::Output(output);
     let section = Section { place, table };
     let listed = section.required_list(alloc, "server", SERVERS_MAX)?;
     check_usable(alloc, output, listed)?;
@@ -163,7 +163,7 @@ fn output_in(alloc: Global, output: usize, table: &Table) -> Result<OutputSettin
     ensures { Answers (first (output_table output (table_view table.now)))
         (output_settings (data_table (table_view table.now))) result }
 {
-    let place = Place::Output(output);
+    let place = TablePath::Output(output);
     let section = Section { place, table };
     let pattern = section.required_pattern(alloc, "match")?;
     let sizes = sizes_in(alloc, output, table)?;
@@ -197,7 +197,7 @@ fn output_of(alloc: Global, output: usize, value: &Value) -> Result<OutputSettin
 {
     match value.as_table() {
         Some(table) => output_in(alloc, output, table),
-        None => Err(Place::Output(output).own_fault(alloc, Flaw::WrongKind)),
+        None => Err(TablePath::Output(output).own_fault(alloc, Flaw::WrongKind)),
     }
 }
 

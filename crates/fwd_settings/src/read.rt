@@ -9,11 +9,11 @@ ghost use Rattle.fwd_settings.specs.Whole as spec;
 
 use crate::fault::SettingsFault;
 use crate::output::outputs_of;
-use crate::place::Place;
 use crate::ranges::OUTPUTS_MAX;
 use crate::relay::relay_of;
 use crate::section::Section;
 use crate::settings::Settings;
+use crate::table_path::TablePath;
 use crate::unknown::least_unknown;
 use std::alloc::Global;
 use toml::Table;
@@ -34,7 +34,7 @@ fn settings_in(alloc: Global, root: &Table) -> Result<Settings, SettingsFault>
         (spec.root_settings (table_view root.now)) result }
 {
     let section = Section {
-        place: Place::Root,
+        place: TablePath::Root,
         table: root,
     };
     let relay = relay_of(alloc, root)?;

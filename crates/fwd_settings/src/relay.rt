@@ -9,7 +9,6 @@ ghost use Rattle.fwd_settings.specs.Keys.{first, message_limit, relay_table, rel
 ghost use Rattle.fwd_settings.specs.Addresses.{home};
 
 use crate::fault::SettingsFault;
-use crate::place::{Flaw, Place};
 use crate::ranges::{
     CONNECTIONS_DEFAULT, CONNECTIONS_MAX, DEPTH_DEFAULT, DEPTH_MAX, DEPTH_MIN,
     MESSAGE_LIMIT_DEFAULT, MESSAGE_LIMIT_MAX, MESSAGE_LIMIT_MIN, NAME_MAX, READERS_DEFAULT,
@@ -17,6 +16,7 @@ use crate::ranges::{
 };
 use crate::section::Section;
 use crate::settings::RelaySettings;
+use crate::table_path::{Flaw, TablePath};
 use crate::user::users_of;
 use std::alloc::Global;
 use std::net::{Ipv4Addr, SocketAddr, SocketAddrV4};
@@ -63,7 +63,7 @@ fn relay_in(alloc: Global, table: &Table) -> Result<RelaySettings, SettingsFault
         (relay_settings (table_view table.now)) result }
 {
     let relay = Section {
-        place: Place::Relay,
+        place: TablePath::Relay,
         table,
     };
     let listen = relay.address_or(alloc, "listen", home())?;
@@ -117,7 +117,7 @@ pub fn relay_of(alloc: Global, root: &Table) -> Result<RelaySettings, SettingsFa
         (relay_settings (table_in (codes "relay") members)) result }
 {
     let section = Section {
-        place: Place::Root,
+        place: TablePath::Root,
         table: root,
     };
     let Some(value) = section.get("relay") else {
@@ -126,6 +126,6 @@ pub fn relay_of(alloc: Global, root: &Table) -> Result<RelaySettings, SettingsFa
     };
     match value.as_table() {
         Some(table) => relay_in(alloc, table),
-        None => Err(Place::Relay.own_fault(alloc, Flaw::WrongKind)),
+        None => Err(TablePath::Relay.own_fault(alloc, Flaw::WrongKind)),
     }
 }

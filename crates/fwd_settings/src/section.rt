@@ -7,9 +7,9 @@ ghost use Rattle.fwd_settings.specs.Kinds.{Reads, number_key, optional_number_ke
 ghost use Rattle.fwd_settings.specs.Keys as keys;
 
 use crate::fault::SettingsFault;
-use crate::place::{Flaw, Place};
 use crate::ranges::{RETRY_MAX_DEFAULT, WAIT_MAX};
 use crate::settings::WhenFull;
+use crate::table_path::{Flaw, TablePath};
 use crate::values::{
     address_in, allowed_list_in, digits_in, flag_in, list_in, number_in, text_in, when_full_in,
 };
@@ -23,7 +23,7 @@ use toml::{Table, Value};
 /// it.
 #[derive(Clone, Copy)]
 pub struct Section<'a> {
-    pub place: Place,
+    pub place: TablePath,
     pub table: &'a Table,
 }
 

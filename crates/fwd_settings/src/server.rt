@@ -8,9 +8,9 @@ ghost use Rattle.fwd_settings.specs.Kinds.{Answers, each};
 ghost use Rattle.fwd_settings.specs.Keys.{first, is_standby, standby_fault, server_fault, server_settings, server_table};
 
 use crate::fault::SettingsFault;
-use crate::place::{Flaw, Place};
 use crate::section::Section;
 use crate::settings::ServerSettings;
+use crate::table_path::{Flaw, TablePath};
 use crate::values::is_true;
 use fwd_base::Seq;
 use std::alloc::Global;
@@ -29,7 +29,7 @@ fn server_in(
     ensures { Answers (first (server_table output server (table_view table.now)))
         (server_settings (data_table (table_view table.now))) result }
 {
-    let place = Place::Server(output, server);
+    let place = TablePath::Server(output, server);
     let section = Section { place, table };
     let address = section.required_address(alloc, "address")?;
     let standby = section.flag(alloc, "standby", false)?;
@@ -48,7 +48,7 @@ fn server_of(
 {
     match value.as_table() {
         Some(table) => server_in(alloc, output, server, table),
-        None => Err(Place::Server(output, server).own_fault(alloc, Flaw::WrongKind)),
+        None => Err(TablePath::Server(output, server).own_fault(alloc, Flaw::WrongKind)),
     }
 }
 
@@ -76,7 +76,7 @@ pub fn check_usable(alloc: Global, output: usize, values: &[Value]) -> Result<()
     ensures { Answers (standby_fault output (map view values.now)) tt result }
 {
     if are_standbys(values) {
-        Err(Place::Output(output).fault(alloc, "server", Flaw::OutOfRange))
+        Err(TablePath::Output(output).fault(alloc, "server", Flaw::OutOfRange))
     } else {
         Ok(())
     }

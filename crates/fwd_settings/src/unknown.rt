@@ -9,10 +9,10 @@ ghost use Rattle.fwd_settings.specs.Keys.{table_in};
 ghost use Rattle.fwd_settings.specs.Unknown as spec;
 
 use crate::output::OUTPUT_KEYS;
-use crate::place::Place;
 use crate::relay::RELAY_KEYS;
 use crate::section::Section;
 use crate::server::SERVER_KEYS;
+use crate::table_path::TablePath;
 use crate::user::USER_KEYS;
 use crate::values::array_in;
 use fwd_base::Text;
@@ -48,7 +48,7 @@ fn is_unknown(names: &[&str], name: &str) -> bool
 #[tactic(auto, using(crate::proofs::UnknownLemmas::name_steps))]
 fn least_under(
     alloc: Global,
-    place: Place,
+    place: TablePath,
     names: &[&str],
     table: &Table,
     least: Option<Text>,
@@ -68,7 +68,7 @@ fn least_under(
 }
 
 /// The members of the list under a name: none if there is no such list.
-fn members_of<'a>(table: &'a Table, place: Place, name: &str) -> &'a [Value]
+fn members_of<'a>(table: &'a Table, place: TablePath, name: &str) -> &'a [Value]
     ensures { map view result.now ≡ list_in name.now (table_view table.now) }
 {
     let section = Section { place, table };
@@ -90,7 +90,7 @@ fn least_in_user(
         key ≡ spec.least (cons_option least (spec.unknown_in_user user (view value.now)))) }
 {
     match value.as_table() {
-        Some(table) => least_under(alloc, Place::User(user), &USER_KEYS, table, least),
+        Some(table) => least_under(alloc, TablePath::User(user), &USER_KEYS, table, least),
         None => Ok(least),
     }
 }
@@ -129,7 +129,7 @@ fn least_in_server(
     match value.as_table() {
         Some(table) => least_under(
             alloc,
-            Place::Server(output, server),
+            TablePath::Server(output, server),
             &SERVER_KEYS,
             table,
             least,
@@ -172,7 +172,7 @@ fn least_in_output(
     let Some(table) = value.as_table() else {
         return Ok(least);
     };
-    let place = Place::Output(output);
+    let place = TablePath::Output(output);
     let least = least_under(alloc, place, &OUTPUT_KEYS, table, least)?;
     least_in_servers(alloc, output, members_of(table, place, "server"), least)
 }
@@ -204,8 +204,8 @@ fn least_in_relay_table(
     ensures { IfOk result (λ key.
         key ≡ spec.least (cons_option least (spec.unknown_in_relay (table_view relay.now)))) }
 {
-    let least = least_under(alloc, Place::Relay, &RELAY_KEYS, relay, least)?;
-    least_in_users(alloc, members_of(relay, Place::Relay, "user"), least)
+    let least = least_under(alloc, TablePath::Relay, &RELAY_KEYS, relay, least)?;
+    least_in_users(alloc, members_of(relay, TablePath::Relay, "user"), least)
 }
 
 /// The same, where there is such a table.
@@ -219,7 +219,7 @@ fn least_in_relay(
         key ≡ spec.least (cons_option least (spec.unknown_in_relay relay))) }
 {
     let section = Section {
-        place: Place::Root,
+        place: TablePath::Root,
         table: root,
     };
     let Some(value) = section.get("relay") else {
@@ -236,7 +236,7 @@ fn least_in_relay(
 pub fn least_unknown(alloc: Global, root: &Table) -> Result<Option<Text>, AllocError>
     ensures { IfOk result (λ key. key ≡ spec.least (spec.unknown_keys (table_view root.now))) }
 {
-    let least = least_under(alloc, Place::Root, &ROOT_KEYS, root, None)?;
+    let least = least_under(alloc, TablePath::Root, &ROOT_KEYS, root, None)?;
     let least = least_in_relay(alloc, root, least)?;
-    least_in_outputs(alloc, members_of(root, Place::Root, "output"), least)
+    least_in_outputs(alloc, members_of(root, TablePath::Root, "output"), least)
 }

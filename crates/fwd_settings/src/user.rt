@@ -9,10 +9,10 @@ ghost use Rattle.fwd_settings.specs.Kinds.{Answers, each};
 ghost use Rattle.fwd_settings.specs.Keys.{first, user_fault, user_settings, user_table};
 
 use crate::fault::SettingsFault;
-use crate::place::{Flaw, Place};
 use crate::ranges::NAME_MAX;
 use crate::section::Section;
 use crate::settings::UserSettings;
+use crate::table_path::{Flaw, TablePath};
 use fwd_base::Seq;
 use std::alloc::Global;
 use toml::{Table, Value};
@@ -25,7 +25,7 @@ fn user_in(alloc: Global, user: usize, table: &Table) -> Result<UserSettings, Se
     ensures { Answers (first (user_table user (table_view table.now)))
         (user_settings (data_table (table_view table.now))) result }
 {
-    let place = Place::User(user);
+    let place = TablePath::User(user);
     let section = Section { place, table };
     let name = section.required_text(alloc, "name", 1, NAME_MAX)?;
     let password = section.required_text(alloc, "password", 1, NAME_MAX)?;
@@ -38,7 +38,7 @@ fn user_of(alloc: Global, user: usize, value: &Value) -> Result<UserSettings, Se
 {
     match value.as_table() {
         Some(table) => user_in(alloc, user, table),
-        None => Err(Place::User(user).own_fault(alloc, Flaw::WrongKind)),
+        None => Err(TablePath::User(user).own_fault(alloc, Flaw::WrongKind)),
     }
 }
 

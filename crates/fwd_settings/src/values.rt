@@ -7,8 +7,8 @@ ghost use Rattle.fwd_settings.specs.Kinds.{given, number_flaw, number_of, flag_f
 ghost use Rattle.fwd_settings.specs.Kinds as spec;
 ghost use Rattle.fwd_settings.specs.Addresses.{address_of_text, socket_of};
 
-use crate::place::Flaw;
 use crate::settings::WhenFull;
+use crate::table_path::Flaw;
 use hex::FromHex;
 use std::net::SocketAddr;
 use toml::Value;

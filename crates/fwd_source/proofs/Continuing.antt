@@ -14,7 +14,7 @@ use Rattle.fwd_modes.specs.Requests.{Request, request_of, parts_in, of_parts, fi
 use Rattle.fwd_modes.specs.Requests.Reading.{Heartbeat, Asks, Fails}
 use Rattle.fwd_source.specs.declared.fault.SourceFault.TheVariants.{Input}
 use Rattle.fwd_source.specs.declared.hearing.SourceHeard.{SourceHeard}
-use Rattle.fwd_source.specs.declared.taking.Taken.{Taken}
+use Rattle.fwd_source.specs.declared.taking.Parsed.{Parsed}
 use Rattle.fwd_source.specs.Judged.{Judged, AwaitedPing, judged_of, value_then, asked, ahead, failed}
 use Rattle.fwd_source.specs.Hearing.{AreTaken, shown}
 use Rattle.fwd_source.proofs.Judging.{judged_of-whole}
@@ -30,11 +30,11 @@ behind_more limits front bytes all old new is on e going =
 
 -- ---- what is nil, by what it asks for
 
-unless_no : (fault : Option InputFault) (parts : requests.Parts) → unless_fault fault parts ≡ Heartbeat → ⊥
+unless_no : (fault : Option InputFault) (parts : requests.RequestFields) → unless_fault fault parts ≡ Heartbeat → ⊥
 unless_no None parts e = cc
 unless_no (Some fault) parts e = cc
 
-parts_no : (parts : Option requests.Parts) → of_parts parts ≡ Heartbeat → ⊥
+parts_no : (parts : Option requests.RequestFields) → of_parts parts ≡ Heartbeat → ⊥
 parts_no None e = cc
 parts_no (Some parts) e = unless_no (first_fault (faults_of parts)) parts e
 
@@ -155,7 +155,7 @@ as_heard j bytes heard rest e kept = record {
 }
 
 -- a request before it changes nothing of that
-pub taken_ahead : (r : Request) (j : Judged) (bytes : List ℕ) (taken : Taken) → AreTaken j bytes taken
+pub taken_ahead : (r : Request) (j : Judged) (bytes : List ℕ) (taken : Parsed) → AreTaken j bytes taken
     → AreTaken (ahead r j) bytes taken
 taken_ahead r j bytes taken are = record {
   rest = are.rest;

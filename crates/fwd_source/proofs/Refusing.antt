@@ -12,7 +12,7 @@ use Rattle.fwd_handshake.specs.Verdicts.{ping_verdict}
 use Rattle.fwd_modes.specs.Requests.{Reading, request_of}
 use Rattle.fwd_modes.specs.Requests.Reading.{Fails}
 use Rattle.fwd_source.specs.declared.fault.SourceFault.TheVariants.{Input}
-use Rattle.fwd_source.specs.declared.taking.Asker.{Asker}
+use Rattle.fwd_source.specs.declared.taking.RequestContext.{RequestContext}
 use Rattle.fwd_source.specs.Asked.{IsRefused}
 use Rattle.fwd_source.specs.Hearing.{awaited_by}
 use Rattle.fwd_source.specs.Judged.{AwaitedPing, asked, failed, judged_of}
@@ -47,11 +47,11 @@ refuses limits own same bytes all is value behind split refused =
     ∙ refused.fails
 
 -- what such bytes say, where no PING is awaited
-pub refused_says : (limits : Limits) (asker : Asker) → asker.awaits ≡ false → (bytes : List ℕ)
+pub refused_says : (limits : Limits) (context : RequestContext) → context.awaits ≡ false → (bytes : List ℕ)
     → (refused : IsRefused limits bytes)
-    → judged_of limits (awaited_by asker) asker.count bytes ≡ failed (Input refused.fault)
-refused_says limits asker passed bytes refused =
-    let none : awaited_by asker ≡ None = ap (λ (b : Bool). cond b (Some (ping_verdict asker.security.now asker.nonces.now)) None) passed in
-    ap (λ (g : AwaitedPing). judged_of limits g asker.count bytes) none
-    ∙ judged_of-whole limits None asker.count bytes refused.size refused.whole
-    ∙ ap (λ (r : Reading). asked asker.count r (λ k. judged_of limits None k (drop refused.size bytes))) refused.fails
+    → judged_of limits (awaited_by context) context.count bytes ≡ failed (Input refused.fault)
+refused_says limits context passed bytes refused =
+    let none : awaited_by context ≡ None = ap (λ (b : Bool). cond b (Some (ping_verdict context.security.now context.nonces.now)) None) passed in
+    ap (λ (g : AwaitedPing). judged_of limits g context.count bytes) none
+    ∙ judged_of-whole limits None context.count bytes refused.size refused.whole
+    ∙ ap (λ (r : Reading). asked context.count r (λ k. judged_of limits None k (drop refused.size bytes))) refused.fails

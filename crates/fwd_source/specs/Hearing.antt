@@ -15,8 +15,8 @@ use Rattle.fwd_source.specs.Judged.{Judged, AwaitedPing, greeted, joined, welcom
 use Rattle.fwd_source.specs.Live.{LiveSource}
 use Rattle.fwd_source.specs.declared.hearing.SourceHeard.{SourceHeard}
 use Rattle.fwd_source.specs.declared.greeting.Greeting.{Greeting}
-use Rattle.fwd_source.specs.declared.taking.Asker.{Asker}
-use Rattle.fwd_source.specs.declared.taking.Taken.{Taken}
+use Rattle.fwd_source.specs.declared.taking.RequestContext.{RequestContext}
+use Rattle.fwd_source.specs.declared.taking.Parsed.{Parsed}
 use Rattle.fwd_handshake.specs.Verdicts.{ping_verdict}
 use Rattle.fwd_source.specs.declared.greeting.Greeting.TheVariants as greeting
 
@@ -105,11 +105,11 @@ Welcomes verdict bytes (greeting.Ended heard) =
     ((others : Judged) → welcomed verdict others ≡ shown heard) × (heard.requests.items ≡ [])
 
 -- the PING that is awaited, if one is
-abbrev pub awaited_by : Asker → AwaitedPing
+abbrev pub awaited_by : RequestContext → AwaitedPing
 awaited_by a = if a.awaits then Some (ping_verdict a.security.now a.nonces.now) else None
 
 -- what the bytes came to is what they say, but for the requests
-pub record AreTaken (said : Judged) (bytes : List ℕ) (taken : Taken) : Type 0 where
+pub record AreTaken (said : Judged) (bytes : List ℕ) (taken : Parsed) : Type 0 where
   pub rest : kept_of bytes (option_map (λ v. v.items) taken.rest) ≡ said.rest
   pub pong : taken.out ≡ said.pong
   pub awaits : taken.awaits ≡ said.awaits

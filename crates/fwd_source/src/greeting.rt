@@ -9,7 +9,7 @@ ghost use Rattle.fwd_source.specs.Judged.{judged_of};
 ghost use Rattle.fwd_source.specs.Hearing.{shown, IsEndOf, EndsIn, Faults, Greets, StandsIn, StandsOver, Welcomes};
 
 use crate::fault::SourceFault;
-use crate::hearing::{SourceHeard, Unjudged, failed, hear};
+use crate::hearing::{SourceHeard, Unparsed, failed, hear};
 use fwd_base::Bytes;
 use fwd_handshake::{Nonces, PingVerdict, Security, judge_ping};
 use fwd_msgpack::{Next, Scanner};
@@ -63,19 +63,19 @@ fn greet<'a>(
     alloc: Global,
     security: &Security,
     nonces: &Nonces,
-    unjudged: Unjudged<'a>,
+    unparsed: Unparsed<'a>,
     scanner: &mut Scanner,
 ) -> Result<Greeting<'a>, AllocError>
     requires { IsBehind scanner.old.limits
-        (take unjudged.scanned unjudged.bytes.now) scanner.old }
+        (take unparsed.scanned unparsed.bytes.now) scanner.old }
     ensures what { IfOk result (λ greeting. (n : ℕ) → Greets scanner.old.limits
-        (ping_verdict security.now nonces.now) n unjudged.entry.bytes.now greeting) }
-    ensures end { IfOk result (λ greeting. EndsIn unjudged.entry.bytes.now greeting) }
+        (ping_verdict security.now nonces.now) n unparsed.entry.bytes.now greeting) }
+    ensures end { IfOk result (λ greeting. EndsIn unparsed.entry.bytes.now greeting) }
     ensures after { IfOk result (λ greeting. StandsIn scanner.old.limits greeting scanner.new) }
     ensures limits { scanner.new.limits ≡ scanner.old.limits }
 {
-    let mut rest = unjudged.bytes;
-    let mut scanned = unjudged.scanned;
+    let mut rest = unparsed.bytes;
+    let mut scanned = unparsed.scanned;
     'values: loop {
         match scanner.next_value(rest, scanned) {
             Next::Unfinished => return Ok(Greeting::Ended(unfinished(alloc, rest))),
@@ -102,27 +102,27 @@ pub fn hear_greeting<'a>(
     security: &Security,
     nonces: &Nonces,
     count: u64,
-    unjudged: Unjudged<'a>,
+    unparsed: Unparsed<'a>,
     scanner: &mut Scanner,
 ) -> Result<SourceHeard<'a>, AllocError>
     requires count { count < 2 ^ 64 }
     requires behind { IsBehind scanner.old.limits
-        (take unjudged.scanned unjudged.bytes.now) scanner.old }
+        (take unparsed.scanned unparsed.bytes.now) scanner.old }
     ensures value { IfOk result (λ heard. shown heard ≡ judged_of scanner.old.limits
-        (Some (ping_verdict security.now nonces.now)) count unjudged.entry.bytes.now) }
-    ensures end { IfOk result (λ heard. IsEndOf heard.rest.now unjudged.entry.bytes.now) }
+        (Some (ping_verdict security.now nonces.now)) count unparsed.entry.bytes.now) }
+    ensures end { IfOk result (λ heard. IsEndOf heard.rest.now unparsed.entry.bytes.now) }
     ensures after { IfOk result (λ heard. StandsOver scanner.old.limits heard scanner.new) }
     ensures limits { scanner.new.limits ≡ scanner.old.limits }
     ensures room { IfOk result (λ heard. count + length heard.requests.items < 2 ^ 64) }
 {
-    match greet(alloc, security, nonces, unjudged, scanner)? {
+    match greet(alloc, security, nonces, unparsed, scanner)? {
         Greeting::Ended(heard) => Ok(heard),
         Greeting::Passed(pong, behind) => {
-            let unjudged = Unjudged {
+            let unparsed = Unparsed {
                 bytes: behind,
                 scanned: 0,
             };
-            let mut heard = hear(alloc, count, unjudged, scanner)?;
+            let mut heard = hear(alloc, count, unparsed, scanner)?;
             heard.pong = pong;
             Ok(heard)
         }

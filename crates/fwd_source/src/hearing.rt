@@ -20,7 +20,7 @@ use std::alloc::{AllocError, Global};
 /// The bytes behind the last whole value of a connection, of which the first so many were scanned
 /// before.
 #[derive(Clone, Copy)]
-pub struct Unjudged<'a> {
+pub struct Unparsed<'a> {
     pub bytes: &'a [u8],
     pub scanned: usize,
     ghost within: { scanned ≤ length bytes.now },
@@ -117,25 +117,25 @@ pub fn failed<'a>(alloc: Global, requests: Vec<Batch>, fault: SourceFault) -> So
 pub fn hear<'a>(
     alloc: Global,
     count: u64,
-    unjudged: Unjudged<'a>,
+    unparsed: Unparsed<'a>,
     scanner: &mut Scanner,
 ) -> Result<SourceHeard<'a>, AllocError>
     requires count { count < 2 ^ 64 }
     requires behind { IsBehind scanner.old.limits
-        (take unjudged.scanned unjudged.bytes.now) scanner.old }
+        (take unparsed.scanned unparsed.bytes.now) scanner.old }
     ensures value { IfOk result (λ heard.
-        shown heard ≡ judged_of scanner.old.limits None count unjudged.entry.bytes.now) }
-    ensures end { IfOk result (λ heard. IsEndOf heard.rest.now unjudged.entry.bytes.now) }
+        shown heard ≡ judged_of scanner.old.limits None count unparsed.entry.bytes.now) }
+    ensures end { IfOk result (λ heard. IsEndOf heard.rest.now unparsed.entry.bytes.now) }
     ensures after { IfOk result (λ heard. StandsOver scanner.old.limits heard scanner.new) }
     ensures limits { scanner.new.limits ≡ scanner.old.limits }
     ensures room { IfOk result (λ heard. count + length heard.requests.items < 2 ^ 64) }
     ensures no_pong { IfOk result (λ heard. heard.pong ≡ []) }
-    ensures refused { IsRefused scanner.old.limits unjudged.entry.bytes.now → IsOk result }
+    ensures refused { IsRefused scanner.old.limits unparsed.entry.bytes.now → IsOk result }
 {
     let limits = scanner.limits();
     let mut requests = Vec::new(alloc);
-    let mut rest = unjudged.bytes;
-    let mut scanned = unjudged.scanned;
+    let mut rest = unparsed.bytes;
+    let mut scanned = unparsed.scanned;
     'values: loop {
         if let Some(front) = front_of(alloc, rest, scanned, limits) {
             if let Some(fault) = add(&mut requests, count, front.request)? {

@@ -40,11 +40,11 @@ ghost use Rattle.fwd_msgpack.specs.Scans.{Bad, first_of, verdict_of, whole_len};
 ghost use Rattle.fwd_msgpack.specs.declared.fault.ScanFault.{ScanFault};
 
 use crate::fault::SourceFault;
-use crate::hearing::Unjudged;
+use crate::hearing::Unparsed;
 use crate::piece::{Piece, SourceTold};
 use crate::room::is_packed;
 use crate::spanning::take_on;
-use crate::taking::{Asker, Taken, take_all};
+use crate::taking::{Parsed, RequestContext, take_all};
 use fwd_base::Bytes;
 use fwd_handshake::{Nonces, Security, write_helo};
 use fwd_modes::{Batch, Origin};
@@ -349,15 +349,22 @@ impl Source {
         ensures room { length self.old.live.unsent + self.old.room
             ≤ length self.new.live.unsent + self.new.room }
     {
-        let asker = Asker {
+        let context = RequestContext {
             security: &self.security,
             nonces: &self.nonces,
             awaits: self.awaits,
             count: self.admitted + self.waiting.len() as u64,
         };
-        let unjudged = Unjudged { bytes, scanned: 0 };
+        let unparsed = Unparsed { bytes, scanned: 0 };
         let (waiting, unsent) = (&mut self.waiting, &mut self.unsent);
-        match take_all(alloc, &asker, unjudged, &mut self.scanner, waiting, unsent) {
+        match take_all(
+            alloc,
+            &context,
+            unparsed,
+            &mut self.scanner,
+            waiting,
+            unsent,
+        ) {
             Ok(taken) => {
                 self.rest = taken.rest.unwrap_or(Vec::new(alloc));
                 self.awaits = taken.awaits;
@@ -387,20 +394,27 @@ impl Source {
     {
         let before = self.rest.len();
         self.rest.extend_from_slice(bytes)?;
-        let asker = Asker {
+        let context = RequestContext {
             security: &self.security,
             nonces: &self.nonces,
             awaits: self.awaits,
             count: self.admitted + self.waiting.len() as u64,
         };
-        let unjudged = Unjudged {
+        let unparsed = Unparsed {
             bytes: &self.rest,
             scanned: before,
         };
         let (waiting, unsent) = (&mut self.waiting, &mut self.unsent);
-        match take_all(alloc, &asker, unjudged, &mut self.scanner, waiting, unsent) {
+        match take_all(
+            alloc,
+            &context,
+            unparsed,
+            &mut self.scanner,
+            waiting,
+            unsent,
+        ) {
             Ok(taken) => {
-                let Taken {
+                let Parsed {
                     rest,
                     out,
                     awaits,
@@ -443,7 +457,7 @@ impl Source {
         let (rest, waiting) = (&mut self.rest, &mut self.waiting);
         match take_on(alloc, count, rest, bytes, &mut self.scanner, waiting) {
             Ok(taken) => {
-                let Taken {
+                let Parsed {
                     rest,
                     out,
                     awaits,

@@ -31,9 +31,9 @@ ghost use Rattle.fwd_source.specs.Judged.{failed, judged_of, value_then};
 ghost use Rattle.fwd_source.specs.Hearing.{AreTaken, Feeds, kept_of};
 
 use crate::fault::SourceFault;
-use crate::hearing::{SourceHeard, Unjudged, hear};
+use crate::hearing::{SourceHeard, Unparsed, hear};
 use crate::room::make_room;
-use crate::taking::Taken;
+use crate::taking::Parsed;
 use fwd_base::Bytes;
 use fwd_modes::{Batch, Reading, take_request};
 use fwd_msgpack::{Fed, Head, HeadRead, Scanner, read_head};
@@ -96,11 +96,11 @@ fn enter_all(first: Batch, others: Vec<Batch>, waiting: &mut VecDeque<Batch>)
 }
 
 /// Nothing but a fault.
-fn refused(alloc: Global, fault: SourceFault) -> Taken
+fn refused(alloc: Global, fault: SourceFault) -> Parsed
     ensures taken { (bytes : List ℕ) → AreTaken (failed fault) bytes result }
     ensures no_pong { result.out ≡ [] }
 {
-    Taken {
+    Parsed {
         rest: Some(Vec::new(alloc)),
         out: Bytes::new(alloc),
         awaits: false,
@@ -118,7 +118,7 @@ fn take_value(
     behind: &[u8],
     scanner: &mut Scanner,
     waiting: &mut VecDeque<Batch>,
-) -> Result<Taken, AllocError>
+) -> Result<Parsed, AllocError>
     requires count { count + 1 < 2 ^ 64 }
     requires whole { first_of scanner.old.limits.bytes scanner.old.limits.depth value.old.items
         ≡ Whole (length value.old.items) }
@@ -139,7 +139,7 @@ fn take_value(
         × (waiting.new.items ≡ waiting.old.items)) }
 {
     let number = count_behind(value, count);
-    let unjudged = Unjudged {
+    let unparsed = Unparsed {
         bytes: behind,
         scanned: 0,
     };
@@ -149,13 +149,13 @@ fn take_value(
         pong: out,
         awaits,
         fault,
-    } = hear(alloc, number, unjudged, scanner)?;
+    } = hear(alloc, number, unparsed, scanner)?;
     let rest = Some(Vec::from_slice(alloc, rest)?);
     waiting.reserve(requests.len() + 1)?;
     match take_request(alloc, value, scanner.limits())? {
         Reading::Asks(batch) => {
             enter_all(batch, requests, waiting);
-            Ok(Taken {
+            Ok(Parsed {
                 rest,
                 out,
                 awaits,
@@ -166,7 +166,7 @@ fn take_value(
         Reading::Heartbeat => {
             let mut requests = VecDeque::from_vec(requests);
             waiting.append(&mut requests).unwrap();
-            Ok(Taken {
+            Ok(Parsed {
                 rest,
                 out,
                 awaits,
@@ -187,7 +187,7 @@ pub fn take_on(
     bytes: &[u8],
     scanner: &mut Scanner,
     waiting: &mut VecDeque<Batch>,
-) -> Result<Taken, AllocError>
+) -> Result<Parsed, AllocError>
     requires count { count + 1 < 2 ^ 64 }
     requires behind { IsBehind scanner.old.limits rest.old.items scanner.old }
     ensures taken { IfOk result (λ taken. AreTaken (judged_of scanner.old.limits None count
@@ -204,7 +204,7 @@ pub fn take_on(
         × (waiting.new.items ≡ waiting.old.items)) }
 {
     match go_on(scanner, rest, bytes)? {
-        Fed::More => Ok(Taken {
+        Fed::More => Ok(Parsed {
             rest: None,
             out: Bytes::new(alloc),
             awaits: false,

@@ -35,7 +35,7 @@ ghost use Rattle.fwd_source.specs.Hearing.{
 
 use crate::fault::SourceFault;
 use crate::greeting::hear_greeting;
-use crate::hearing::{SourceHeard, Unjudged, hear};
+use crate::hearing::{SourceHeard, Unparsed, hear};
 use fwd_base::Bytes;
 use fwd_handshake::{Nonces, Security};
 use fwd_modes::Batch;
@@ -45,7 +45,7 @@ use std::collections::VecDeque;
 
 /// What of a connection decides what its bytes ask for.
 #[derive(Clone, Copy)]
-pub struct Asker<'a> {
+pub struct RequestContext<'a> {
     pub security: &'a Security,
     pub nonces: &'a Nonces,
     /// A PING is awaited.
@@ -56,7 +56,7 @@ pub struct Asker<'a> {
 
 /// What bytes came to, whose requests and PONG wait already.
 #[derive(Drop)]
-pub struct Taken {
+pub struct Parsed {
     /// The bytes of the unfinished value in a room of their own: none where all bytes are that,
     /// and some of them have a room already.
     pub rest: Option<Vec<u8>>,
@@ -68,50 +68,50 @@ pub struct Taken {
 /// What the bytes say. Of the scanner, see `hear`.
 fn judge<'a>(
     alloc: Global,
-    asker: &Asker<'_>,
-    unjudged: Unjudged<'a>,
+    context: &RequestContext<'_>,
+    unparsed: Unparsed<'a>,
     scanner: &mut Scanner,
 ) -> Result<SourceHeard<'a>, AllocError>
-    requires count { asker.now.count < 2 ^ 64 }
+    requires count { context.now.count < 2 ^ 64 }
     requires behind { IsBehind scanner.old.limits
-        (take unjudged.scanned unjudged.bytes.now) scanner.old }
+        (take unparsed.scanned unparsed.bytes.now) scanner.old }
     ensures value { IfOk result (λ heard. shown heard ≡ judged_of scanner.old.limits
-        (awaited_by asker.now) asker.now.count unjudged.entry.bytes.now) }
-    ensures end { IfOk result (λ heard. IsEndOf heard.rest.now unjudged.entry.bytes.now) }
+        (awaited_by context.now) context.now.count unparsed.entry.bytes.now) }
+    ensures end { IfOk result (λ heard. IsEndOf heard.rest.now unparsed.entry.bytes.now) }
     ensures after { IfOk result (λ heard. StandsOver scanner.old.limits heard scanner.new) }
     ensures limits { scanner.new.limits ≡ scanner.old.limits }
     ensures room { IfOk result (λ heard.
-        asker.now.count + length heard.requests.items < 2 ^ 64) }
-    ensures refused { asker.now.awaits ≡ false
-        → IsRefused scanner.old.limits unjudged.entry.bytes.now → IsOk result }
+        context.now.count + length heard.requests.items < 2 ^ 64) }
+    ensures refused { context.now.awaits ≡ false
+        → IsRefused scanner.old.limits unparsed.entry.bytes.now → IsOk result }
 {
-    let Asker {
+    let RequestContext {
         security,
         nonces,
         awaits,
         count,
-    } = *asker;
+    } = *context;
     if awaits {
-        hear_greeting(alloc, security, nonces, count, unjudged, scanner)
+        hear_greeting(alloc, security, nonces, count, unparsed, scanner)
     } else {
-        hear(alloc, count, unjudged, scanner)
+        hear(alloc, count, unparsed, scanner)
     }
 }
 
 /// The bytes of an unfinished value in a room of their own, unless all bytes are that and some
 /// have a room already. A value that comes in many pieces stays where it is, and is not copied at
 /// each.
-fn apart(alloc: Global, rest: &[u8], unjudged: Unjudged<'_>) -> Result<Option<Vec<u8>>, AllocError>
-    requires { IsEndOf rest.now unjudged.bytes.now }
+fn apart(alloc: Global, rest: &[u8], unparsed: Unparsed<'_>) -> Result<Option<Vec<u8>>, AllocError>
+    requires { IsEndOf rest.now unparsed.bytes.now }
     ensures kept { IfOk result (λ apart.
-        kept_of unjudged.entry.bytes.now (option_map (λ v. v.items) apart) ≡ rest.now) }
-    ensures own { IfOk result (λ apart. unjudged.entry.scanned ≡ 0 → is_some apart ≡ true) }
+        kept_of unparsed.entry.bytes.now (option_map (λ v. v.items) apart) ≡ rest.now) }
+    ensures own { IfOk result (λ apart. unparsed.entry.scanned ≡ 0 → is_some apart ≡ true) }
     ensures none { rest.now ≡ [] → IsOk result }
 {
     if rest.is_empty() {
         return Ok(Some(Vec::new(alloc)));
     }
-    if rest.len() == unjudged.bytes.len() && unjudged.scanned > 0 {
+    if rest.len() == unparsed.bytes.len() && unparsed.scanned > 0 {
         return Ok(None);
     }
     Ok(Some(Vec::from_slice(alloc, rest)?))
@@ -142,33 +142,33 @@ fn enter(
 /// not before. Of the scanner, see `hear`.
 pub fn take_all(
     alloc: Global,
-    asker: &Asker<'_>,
-    unjudged: Unjudged<'_>,
+    context: &RequestContext<'_>,
+    unparsed: Unparsed<'_>,
     scanner: &mut Scanner,
     waiting: &mut VecDeque<Batch>,
     unsent: &mut Vec<u8>,
-) -> Result<Taken, AllocError>
-    requires count { asker.now.count < 2 ^ 64 }
+) -> Result<Parsed, AllocError>
+    requires count { context.now.count < 2 ^ 64 }
     requires behind { IsBehind scanner.old.limits
-        (take unjudged.scanned unjudged.bytes.now) scanner.old }
+        (take unparsed.scanned unparsed.bytes.now) scanner.old }
     ensures taken { IfOk result (λ taken. AreTaken (judged_of scanner.old.limits
-        (awaited_by asker.now) asker.now.count unjudged.entry.bytes.now)
-        unjudged.entry.bytes.now taken) }
+        (awaited_by context.now) context.now.count unparsed.entry.bytes.now)
+        unparsed.entry.bytes.now taken) }
     ensures waiting { IfOk result (λ taken. waiting.new.items ≡ waiting.old.items
-        ++ (judged_of scanner.old.limits (awaited_by asker.now) asker.now.count
-        unjudged.entry.bytes.now).requests) }
+        ++ (judged_of scanner.old.limits (awaited_by context.now) context.now.count
+        unparsed.entry.bytes.now).requests) }
     ensures unsent { IfOk result (λ taken. unsent.new.items ≡ unsent.old.items ++ taken.out) }
-    ensures own { IfOk result (λ taken. unjudged.entry.scanned ≡ 0 → is_some taken.rest ≡ true) }
+    ensures own { IfOk result (λ taken. unparsed.entry.scanned ≡ 0 → is_some taken.rest ≡ true) }
     ensures after { IfOk result (λ taken. taken.fault ≡ None → IsBehind scanner.old.limits
-        (kept_of unjudged.entry.bytes.now (option_map (λ v. v.items) taken.rest)) scanner.new) }
+        (kept_of unparsed.entry.bytes.now (option_map (λ v. v.items) taken.rest)) scanner.new) }
     ensures limits { scanner.new.limits ≡ scanner.old.limits }
-    ensures count { OnOk result (asker.now.count + length waiting.new.items
+    ensures count { OnOk result (context.now.count + length waiting.new.items
         < 2 ^ 64 + length waiting.old.items) }
     ensures err { OnErr result ((waiting.new.items ≡ waiting.old.items)
         × (unsent.new.items ≡ unsent.old.items)) }
     ensures room { vec_capacity unsent.old ≤ vec_capacity unsent.new }
-    ensures refused { asker.now.awaits ≡ false
-        → IsRefused scanner.old.limits unjudged.entry.bytes.now → IsOk result }
+    ensures refused { context.now.awaits ≡ false
+        → IsRefused scanner.old.limits unparsed.entry.bytes.now → IsOk result }
 {
     let SourceHeard {
         requests,
@@ -176,10 +176,10 @@ pub fn take_all(
         pong: out,
         awaits,
         fault,
-    } = judge(alloc, asker, unjudged, scanner)?;
-    let rest = apart(alloc, rest, unjudged)?;
+    } = judge(alloc, context, unparsed, scanner)?;
+    let rest = apart(alloc, rest, unparsed)?;
     enter(requests, &out, waiting, unsent)?;
-    Ok(Taken {
+    Ok(Parsed {
         rest,
         out,
         awaits,

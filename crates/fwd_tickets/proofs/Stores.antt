@@ -24,21 +24,21 @@ pub kept_at : (s t : Stored) (ticket : Ticket) (chunk : ℕ)
     → last_chunk ticket.spans ≡ Some chunk
     → ((k : ℕ) → waiting_in t.lists k
     ≡ waits_with (waiting_in s.lists) chunk (waiting_in s.lists chunk ++ ticket ∷ []) k)
-    → t.due ≡ s.due → t.late ≡ s.late → t.stirred ≡ s.stirred → t.all_due ≡ s.all_due
+    → t.due ≡ s.due → t.late ≡ s.late → t.late_due ≡ s.late_due → t.all_due ≡ s.all_due
     → IsKept s ticket t
-kept_at s t ticket chunk last waits due late stirred all = record {
+kept_at s t ticket chunk last waits due late late_due all = record {
   held = subst (λ o. AreHeld (with_ticket (held_in s) ticket o) (held_in t)) (sym last)
       (record { waits = waits; due = due; late = late });
-  stirred = stirred;
+  late_due = late_due;
   all_due = all;
 }
 
 -- what is taken off the front of those that are due is handed over
 pub handed : (s m t : Stored) (taken : List Ticket)
     → Looks s m → m.due ≡ taken ++ t.due → t.lists ≡ m.lists
-    → t.late ≡ m.late → t.stirred ≡ m.stirred → t.all_due ≡ m.all_due
+    → t.late ≡ m.late → t.late_due ≡ m.late_due → t.all_due ≡ m.all_due
     → (taken ≡ [] → t.due ≡ []) → HandsOver s taken t
-handed s m t taken looks first lists late stirred all some = record {
+handed s m t taken looks first lists late late_due all some = record {
   found = m;
   looks = looks;
   first = first;
@@ -47,7 +47,7 @@ handed s m t taken looks first lists late stirred all some = record {
     due = refl;
     late = late;
   };
-  stirred = stirred;
+  late_due = late_due;
   all_due = all;
   some = some;
 }
@@ -55,7 +55,7 @@ handed s m t taken looks first lists late stirred all some = record {
 -- a look comes to the same whatever room there is
 looks_on : (s m : Stored) (room : ℕ) → Looks s m → Looks s (record m { room = room })
 looks_on s m room (inl none) = inl (
-  record { held = none.0.held; stirred = none.0.stirred; all_due = none.0.all_due },
+  record { held = none.0.held; late_due = none.0.late_due; all_due = none.0.all_due },
   none.1,
 )
 looks_on s m room (inr (inl back)) = inr (inl back)
@@ -63,8 +63,8 @@ looks_on s m room (inr (inr all)) = inr (inr all)
 
 -- and so where nothing is handed over behind it
 pub kept_due : (s m t : Stored) → Looks s m → t.lists ≡ m.lists → t.due ≡ m.due
-    → t.late ≡ m.late → t.stirred ≡ m.stirred → t.all_due ≡ m.all_due → Looks s t
-kept_due s m t looks lists due late stirred all =
+    → t.late ≡ m.late → t.late_due ≡ m.late_due → t.all_due ≡ m.all_due → Looks s t
+kept_due s m t looks lists due late late_due all =
     subst (Looks s) same (looks_on s m t.room looks)
   where
     same : record m { room = t.room } ≡ t
@@ -72,7 +72,7 @@ kept_due s m t looks lists due late stirred all =
       lists = sym lists i;
       due = sym due i;
       late = sym late i;
-      stirred = sym stirred i;
+      late_due = sym late_due i;
       all_due = sym all i;
       room = t.room;
     }

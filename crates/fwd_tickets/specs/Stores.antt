@@ -35,7 +35,7 @@ pub record Stored : Type 0 where
   pub lists : List (ℕ × List Ticket)
   pub due : List Ticket
   pub late : List Ticket
-  pub stirred : Bool
+  pub late_due : Bool
   pub all_due : Bool
   pub room : ℕ
 
@@ -71,7 +71,7 @@ pub record AreHeld (s : Held) (t : Held) : Type 0 where
 -- two stores are the same
 pub record IsSame (s : Stored) (t : Stored) : Type 0 where
   pub held : AreHeld (held_in s) (held_in t)
-  pub stirred : t.stirred ≡ s.stirred
+  pub late_due : t.late_due ≡ s.late_due
   pub all_due : t.all_due ≡ s.all_due
 
 -- a store that holds none, and of which nothing is to be handed in
@@ -80,7 +80,7 @@ none_kept = record {
   lists = [];
   due = [];
   late = [];
-  stirred = false;
+  late_due = false;
   all_due = false;
   room = 0;
 }
@@ -100,13 +100,13 @@ with_ticket s ticket (Some chunk) = record s {
 -- a ticket is kept: it waits for the last chunk of its request, or is due where that has none
 pub record IsKept (s : Stored) (ticket : Ticket) (t : Stored) : Type 0 where
   pub held : AreHeld (with_ticket (held_in s) ticket (last_chunk ticket.spans)) (held_in t)
-  pub stirred : t.stirred ≡ s.stirred
+  pub late_due : t.late_due ≡ s.late_due
   pub all_due : t.all_due ≡ s.all_due
 
 -- nothing is to be handed in: none is due, and none came back before a chunk was settled
 pub record IsQuiet (s : Stored) : Type 0 where
   pub due : s.due ≡ []
-  pub late : s.stirred ≡ true → s.late ≡ []
+  pub late : s.late_due ≡ true → s.late ≡ []
   pub not_all : s.all_due ≡ false
 
 -- who waits for a chunk is due, behind all that are, and waits no more
@@ -122,7 +122,7 @@ pub record IsSettled (s : Stored) (chunk : ℕ) (t : Stored) : Type 0 where
   pub moved : AreHeld (with_due (held_in s) chunk) (held_in t)
       ⊎ (AreHeld (held_in s) (held_in t) × (t.all_due ≡ true))
   pub all_stay : s.all_due ≡ true → t.all_due ≡ true
-  pub again : s.late ≢ [] → t.stirred ≡ true
+  pub again : s.late ≢ [] → t.late_due ≡ true
 
 -- Where none is due and all are to be handed in, those that wait for some chunk are due, and wait
 -- no more. Where none waits, not all are to be handed in any more.
@@ -136,20 +136,20 @@ FindsLeast s t =
 -- nothing is looked for: some are due, or nothing else is to be handed in
 abbrev pub LooksForNone : Stored → Stored → Type 0
 LooksForNone s t =
-    IsSame s t × (s.due ≡ [] → (s.stirred ≡ false) × (s.all_due ≡ false))
+    IsSame s t × (s.due ≡ [] → (s.late_due ≡ false) × (s.all_due ≡ false))
 
 -- those that came back are due, where none is, and a chunk was settled since
 abbrev pub LooksBack : Stored → Stored → Type 0
 LooksBack s t =
-    (s.due ≡ []) × (s.stirred ≡ true)
+    (s.due ≡ []) × (s.late_due ≡ true)
     × AreHeld (record (held_in s) { due = s.late; late = [] }) (held_in t)
-    × (t.stirred ≡ false) × (t.all_due ≡ s.all_due)
+    × (t.late_due ≡ false) × (t.all_due ≡ s.all_due)
 
 -- all are to be handed in, and none is due, nor to be handed in again
 abbrev pub LooksForAll : Stored → Stored → Type 0
 LooksForAll s t =
-    (s.due ≡ []) × (s.stirred ≡ false) × (s.all_due ≡ true) × FindsLeast s t
-    × (t.stirred ≡ false)
+    (s.due ≡ []) × (s.late_due ≡ false) × (s.all_due ≡ true) × FindsLeast s t
+    × (t.late_due ≡ false)
 
 -- Where none is due, tickets to be handed in are looked for: those that came back, if a chunk was
 -- settled since, and else, where all are to be handed in, those that wait for some chunk.
@@ -162,6 +162,6 @@ pub record HandsOver (s : Stored) (taken : List Ticket) (t : Stored) : Type 0 wh
   pub looks : Looks s found
   pub first : found.due ≡ taken ++ t.due
   pub rest : AreHeld (record (held_in found) { due = t.due }) (held_in t)
-  pub stirred : t.stirred ≡ found.stirred
+  pub late_due : t.late_due ≡ found.late_due
   pub all_due : t.all_due ≡ found.all_due
   pub some : taken ≡ [] → t.due ≡ []

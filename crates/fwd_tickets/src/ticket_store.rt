@@ -57,7 +57,7 @@ pub struct TicketStore {
     /// yet.
     late: VecDeque<Vec<Ticket>>,
     /// A chunk was settled since some came back: it may be that one.
-    is_stirred: bool,
+    are_late_due: bool,
     /// It is not known what was settled, or memory was refused for it: all are to be handed in.
     are_all_due: bool,
 }
@@ -74,7 +74,7 @@ impl Model for TicketStore {
       lists = s.waiting.entries;
       due = s.due;
       late = flat_map (λ block. block.items) s.late.items;
-      stirred = s.is_stirred;
+      late_due = s.are_late_due;
       all_due = s.are_all_due;
       room = deque_capacity s.late - deque_len s.late;
     } };
@@ -92,7 +92,7 @@ impl TicketStore {
             waiting: BTreeMap::new(alloc),
             due: TicketList::new(alloc),
             late: VecDeque::new(alloc),
-            is_stirred: false,
+            are_late_due: false,
             are_all_due: false,
         }
     }
@@ -126,7 +126,7 @@ impl TicketStore {
     pub fn settle(&mut self, chunk: u64)
         ensures { IsSettled self.old chunk self.new }
     {
-        self.is_stirred = self.is_stirred || !self.late.is_empty();
+        self.are_late_due = self.are_late_due || !self.late.is_empty();
         if move_list(&mut self.waiting, chunk, &mut self.due).is_err() {
             self.are_all_due = true;
         }
@@ -134,24 +134,24 @@ impl TicketStore {
 
     /// All tickets are to be handed in.
     pub fn settle_all(&mut self)
-        ensures { self.new ≡ record self.old { stirred = true; all_due = true } }
+        ensures { self.new ≡ record self.old { late_due = true; all_due = true } }
     {
         self.are_all_due = true;
-        self.is_stirred = true;
+        self.are_late_due = true;
     }
 
     /// Those that came back are to be handed in again.
-    pub fn stir(&mut self)
-        ensures { self.new ≡ record self.old { stirred = true } }
+    pub fn note_late_due(&mut self)
+        ensures { self.new ≡ record self.old { late_due = true } }
     {
-        self.is_stirred = true;
+        self.are_late_due = true;
     }
 
     /// Whether there are tickets to be handed in.
     pub fn is_due(&self) -> bool
         ensures { result ≡ false → IsQuiet self.now }
     {
-        self.are_all_due || !self.due.is_empty() || (self.is_stirred && !self.late.is_empty())
+        self.are_all_due || !self.due.is_empty() || (self.are_late_due && !self.late.is_empty())
     }
 
     /// Takes out the first tickets that are to be handed in: a block of them, and none only where
@@ -183,7 +183,7 @@ impl TicketStore {
         if !self.due.is_empty() {
             return;
         }
-        if mem::replace(&mut self.is_stirred, false) {
+        if mem::replace(&mut self.are_late_due, false) {
             self.due.take_blocks(&mut self.late);
         } else if self.are_all_due {
             self.find_least();
@@ -195,7 +195,7 @@ impl TicketStore {
         requires none { self.old.due ≡ [] }
         requires all { self.old.all_due ≡ true }
         ensures found { FindsLeast self.old self.new }
-        ensures stirred { self.new.stirred ≡ self.old.stirred }
+        ensures late_due { self.new.late_due ≡ self.old.late_due }
     {
         match self.waiting.pop_first() {
             Some((_, list)) => mem::replace(&mut self.due, list).destroy_empty(),
@@ -233,7 +233,7 @@ impl TicketStore {
             mut waiting,
             due,
             late,
-            is_stirred: _,
+            are_late_due: _,
             are_all_due: _,
         } = self;
         while let Some((_, list)) = waiting.pop_first() {

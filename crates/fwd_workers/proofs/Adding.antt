@@ -1,19 +1,19 @@
 -- A chunk may be added to a session that was served.
 use Rattle.std.proofs.Common.{◌≡◌, true, [], ap, ◌∙◌}
 use Rattle.fwd_session.specs.Live.{LiveSession, live_room}
-use Rattle.fwd_workers.specs.declared.line.Stage.{Stage}
-use Rattle.fwd_workers.specs.declared.line.Stage.TheVariants as stage
+use Rattle.fwd_workers.specs.declared.upstream.WorkerState.{WorkerState}
+use Rattle.fwd_workers.specs.declared.upstream.WorkerState.TheVariants as stage
 use Rattle.fwd_workers.specs.Served.{may_add}
 use Rattle.fwd_workers.specs.Working.{HasAdded, HasSettled}
 
 -- what becomes of it settles nothing of the session before
-pub added-settles : {L : Type 0} {g : _} (at : Stage L g) (t s : LiveSession) → HasAdded at t
+pub added-settles : {L : Type 0} {g : _} (at : WorkerState L g) (t s : LiveSession) → HasAdded at t
     → s.accepted ≡ [] → may_add s ≡ true → live_room t ≡ live_room s → HasSettled at s
-added-settles (stage.Loaded line) t s added none may room = (none, ap live_room added.0 ∙ room)
+added-settles (stage.Loaded upstream) t s added none may room = (none, ap live_room added.0 ∙ room)
 added-settles (stage.Added roomy chunk) t s added none may room = (none, may, ap live_room added.0 ∙ room)
 added-settles stage.Idle t s added none may room = absurd added
 added-settles stage.Seeking t s added none may room = absurd added
 added-settles (stage.Sought free) t s added none may room = absurd added
 added-settles (stage.Standing free) t s added none may room = absurd added
 added-settles (stage.Took free chunk) t s added none may room = absurd added
-added-settles (stage.Settled line) t s added none may room = absurd added
+added-settles (stage.Settled upstream) t s added none may room = absurd added

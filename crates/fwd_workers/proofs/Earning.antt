@@ -5,13 +5,13 @@ use Rattle.std.specs.List.{AllByRecursion}
 use Rattle.std.proofs.Math.Logic.{∥∥₁_map}
 use Rattle.std.proofs.lemmas.Bool.Decides.{nat_tests}
 use Rattle.fwd_chunks.specs.declared.chunk.Chunk.{Chunk}
-use Rattle.fwd_chunks.specs.History.{Load}
-use Rattle.fwd_chunks.specs.Live.{LiveBuffer, IsCarried, held_in, is_at, is_taken, live_load}
+use Rattle.fwd_chunks.specs.History.{CarriedChunk}
+use Rattle.fwd_chunks.specs.Live.{LiveBuffer, IsCarried, held_in, is_at, is_taken, live_carried_chunk}
 use Rattle.fwd_chunks.specs.Soundness.{IsSound}
 use Rattle.fwd_chunks.proofs.Calls.{carried-by}
 use Rattle.fwd_chunks.proofs.Places.{filter-found, if_taken}
 use Rattle.std.proofs.lemmas.Option.{same_Some}
-use Rattle.fwd_session.specs.Evidence.{Accepted}
+use Rattle.fwd_session.specs.ServerAcks.{Accepted}
 use Rattle.fwd_session.specs.History.{first_in}
 use Rattle.fwd_session.specs.Live.{LiveSession, live_acked}
 use Rattle.fwd_session.proofs.Lists.{all_append, all_placed, all_same}
@@ -22,7 +22,7 @@ use Rattle.fwd_workers.specs.Working.{IsAcknowledgedOver, IsEarned, entries_in, 
 -- ---- under the lock
 
 -- a chunk that a worker has of this buffer has all entries under its number
-carried-count : (b : LiveBuffer) (load : Load) → IsSound b → IsCarried b load
+carried-count : (b : LiveBuffer) (load : CarriedChunk) → IsSound b → IsCarried b load
     → held_in (filter (is_at load.number) b.chunks) ≡ length load.entries
 carried-count b load sound is =
     by (find (is_at load.number) b.chunks) refl (sym (carried-by b load.number sound) ∙ is)
@@ -34,16 +34,16 @@ carried-count b load sound is =
     one n = omega arith
 
     by : (o : Option Chunk) → find (is_at load.number) b.chunks ≡ o
-        → option_map (live_load b) (if_taken o) ≡ Some load
+        → option_map (live_carried_chunk b) (if_taken o) ≡ Some load
         → held_in (filter (is_at load.number) b.chunks) ≡ length load.entries
     by None e f = absurd (nothing f)
     by (Some c) e f =
         ap held_in (filter-found load.number b.chunks c sound.in_order e) ∙ one (length c.entries)
         ∙ entries (is_taken c.stage) f
       where
-        entries : (t : Bool) → option_map (live_load b) (cond t (Some c) None) ≡ Some load
+        entries : (t : Bool) → option_map (live_carried_chunk b) (cond t (Some c) None) ≡ Some load
             → length c.entries ≡ length load.entries
-        entries true f = ap (λ (l : Load). length l.entries) (same_Some _ _ f)
+        entries true f = ap (λ (l : CarriedChunk). length l.entries) (same_Some _ _ f)
         entries false f = absurd (nothing f)
 
 -- a number that is at most another where something holds, and is nothing where it does not
@@ -57,7 +57,7 @@ either-most P n most here elsewhere = by (nat_le n most) refl
         let none = elsewhere (λ p. omega (arith, here p, over)) in
         omega (arith, none)
 
-pub settles-most : (b : LiveBuffer) (load : Load) (n : ℕ) → IsSound b
+pub settles-most : (b : LiveBuffer) (load : CarriedChunk) (n : ℕ) → IsSound b
     → (IsCarried b load → n ≡ held_in (filter (is_at load.number) b.chunks))
     → ((IsCarried b load → ⊥) → n ≡ 0) → n ≤ length load.entries
 settles-most b load n sound here elsewhere =
@@ -101,10 +101,10 @@ entries-append [] ys = omega arith
 entries-append (a ∷ xs) ys = omega (arith, entries-append xs ys)
 
 -- what a session accepted that lived over a link was acknowledged over it
-pub line-over : {Link : Type 0} (calls : Link → List Call) (link : Link) (s : LiveSession) (ends : Bool)
+pub upstream-over : {Link : Type 0} (calls : Link → List Call) (link : Link) (s : LiveSession) (ends : Bool)
     → ∥ IsOfLink s (seen_in (calls link)) ends ∥₁
     → ∥ AllByRecursion (IsAcknowledgedOver calls) s.accepted ∥₁
-line-over calls link s ends own =
+upstream-over calls link s ends own =
     ∥∥₁_map own (λ own. all_same (λ a. (place : ℕ) × (slice_get s.accepted place ≡ Some a)) (IsAcknowledgedOver calls)
     s.accepted (λ a there. record {
       link = link;

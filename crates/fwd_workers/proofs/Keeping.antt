@@ -2,7 +2,7 @@
 use Rattle.std.proofs.Common.{◌≡◌, ◌<◌, drop, subst, Bool, true, false, cond, ℕ, List, [], ◌∷◌, ◌++◌, refl, sym, ap, ◌∙◌, ◌-◌, ◌+◌, length, arith}
 use Rattle.std.specs.Prelude.{is_some, option_map, map, nat_lt, ◌&&◌}
 use Rattle.std.proofs.lemmas.Bool.Decides.{nat_tests}
-use Rattle.fwd_session.specs.Evidence.{Accepted}
+use Rattle.fwd_session.specs.ServerAcks.{Accepted}
 use Rattle.fwd_session.specs.History.{Setup, first_in}
 use Rattle.fwd_session.specs.Said.{accepted_by, left_by}
 use Rattle.fwd_session.specs.Live.{

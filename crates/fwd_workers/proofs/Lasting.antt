@@ -8,11 +8,11 @@ use Rattle.fwd_modes.specs.Scans.{Split, fault_at, first_of, item_begun, parts_o
 use Rattle.fwd_modes.specs.Scans.Split.{Open, Broken}
 use Rattle.fwd_modes.specs.Acks.{ack_name}
 use Rattle.fwd_modes.specs.Frames.{chunk_frame}
-use Rattle.fwd_chunks.specs.History.{Load}
+use Rattle.fwd_chunks.specs.History.{CarriedChunk}
 use Rattle.fwd_session.specs.declared.fault.SessionFault.{SessionFault}
 use Rattle.fwd_session.specs.declared.told.SessionHeard.{SessionHeard}
 use Rattle.fwd_session.specs.declared.told.SessionHeard.TheVariants as told
-use Rattle.fwd_session.specs.Evidence.{Accepted, frame_of}
+use Rattle.fwd_session.specs.ServerAcks.{Accepted, frame_of}
 use Rattle.fwd_session.specs.Said.{behind, left_by, out_of, reply_stream, word_of}
 use Rattle.fwd_session.specs.History.{
   IsAcknowledged as IsAcked,
@@ -444,7 +444,7 @@ begins-alive setup start taken given = record {
   framed = begins-framed setup;
 }
 
-loads-alive : (s t : LiveSession) (seen : Seen) (c : Load) (now : ℕ) → IsAlive s seen
+loads-alive : (s t : LiveSession) (seen : Seen) (c : CarriedChunk) (now : ℕ) → IsAlive s seen
     → live_is_ready s ≡ true → t ≡ session_loads s c now → IsAlive t seen
 loads-alive s t seen c now alive ready is =
     let over = alive.over in
@@ -587,7 +587,7 @@ handed s seen alive up =
     ∙ ap (λ w. seen.taken ++ w) (sym (live-waits h) ∙ ap (λ (x : LiveSession). x.waiting) (sym alive.over.live))
 
 -- a chunk is loaded
-loads-story : (life : Life) (s t : LiveSession) (seen : Seen) (c : Load) (now : ℕ)
+loads-story : (life : Life) (s t : LiveSession) (seen : Seen) (c : CarriedChunk) (now : ℕ)
     → IsStory life s seen → Does (Loads c now) s t seen seen
     → IsStory (and_then life (Loads c now)) t seen
 unfolding loads-alive
@@ -827,7 +827,7 @@ plain_setup = record {
   start = 0;
 }
 
-abbrev small_chunk : Load
+abbrev small_chunk : CarriedChunk
 small_chunk = record {
   number = 1;
   tag = 97 ∷ [];

@@ -3,16 +3,16 @@ use Rattle.std.proofs.Common.{◌≡◌, ◌≢◌, ◌<◌, ◌++◌, ◌⊎◌
 use Rattle.std.specs.Prelude.{ℕ, is_some, option_map, ◌||◌}
 use Rattle.std.proofs.Math.Logic.{∥∥₁_map, ∥∥₁_elim}
 use Rattle.std.proofs.Math.Bool.{Bool-set}
-use Rattle.fwd_chunks.specs.History.{Load}
+use Rattle.fwd_chunks.specs.History.{CarriedChunk}
 use Rattle.fwd_session.specs.declared.fault.SessionFault.{SessionFault}
 use Rattle.fwd_session.specs.declared.told.SessionHeard.{SessionHeard}
 use Rattle.fwd_session.specs.declared.told.SessionHeard.TheVariants as told
-use Rattle.fwd_session.specs.Evidence.{Accepted}
+use Rattle.fwd_session.specs.ServerAcks.{Accepted}
 use Rattle.fwd_session.specs.History.{Setup, first_in, is_done, told_by, told_of}
 use Rattle.fwd_session.specs.Live.{LiveSession, live_acked, live_is_late, live_is_ready, live_piece_told, live_room, live_says, session_begins, session_hears, session_listens, session_loads, session_looks, session_takes, session_unloads}
-use Rattle.fwd_workers.specs.declared.ending.Ending.{Ending}
-use Rattle.fwd_workers.specs.declared.ending.Ending.TheVariants as ending
-use Rattle.fwd_workers.specs.declared.link.Loss.{Loss}
+use Rattle.fwd_workers.specs.declared.ending.EndReason.{EndReason}
+use Rattle.fwd_workers.specs.declared.ending.EndReason.TheVariants as ending
+use Rattle.fwd_workers.specs.declared.link.LossReason.{LossReason}
 use Rattle.fwd_workers.specs.declared.serve.Served.{Served}
 use Rattle.fwd_workers.specs.declared.serve.Served.TheVariants as served
 use Rattle.fwd_workers.specs.Endings.{loss_in}
@@ -109,12 +109,12 @@ goes-up what s t before after up none is = by what none is.3
     by (served.Failed fault) none fails = absurd (lost none)
     by served.Memory none memory = absurd (lost none)
 
--- ---- a line, from step to step
+-- ---- an upstream, from step to step
 
 -- a session begins on a link of which no call was made
-pub begins-line : (setup : Setup) (s : LiveSession) (calls : List Call) → s ≡ session_begins setup
+pub begins-upstream : (setup : Setup) (s : LiveSession) (calls : List Call) → s ≡ session_begins setup
     → calls ≡ [] → ∥ IsOfLink s (seen_in calls) false ∥₁
-begins-line setup s calls begun fresh =
+begins-upstream setup s calls begun fresh =
     ∣ record {
       lived = inl (record {
         setup = setup;
@@ -131,17 +131,17 @@ looks-lived s t now seen own is =
     lived-then (Looks now) s t seen seen (lived-of s seen own) (own.up refl, is, refl)
 
 -- and it is, so it is to end
-pub late-line : (s t : LiveSession) (now : ℕ) (calls : List Call)
+pub late-upstream : (s t : LiveSession) (now : ℕ) (calls : List Call)
     → ∥ IsOfLink s (seen_in calls) false ∥₁ → t ≡ session_looks s now
     → ∥ IsOfLink t (seen_in calls) true ∥₁
-late-line s t now calls own is =
+late-upstream s t now calls own is =
     ∥∥₁_map own (λ own. ends-of t (seen_in calls) (looks-lived s t now (seen_in calls) own is))
 
 -- it was not late, and its turn came to this
-served-line-by : (what : Served) (m t : LiveSession) (seen next : Seen) → HasLived m seen
+served-upstream-by : (what : Served) (m t : LiveSession) (seen next : Seen) → HasLived m seen
     → m.down ≡ false → IsServed what m t seen next
     → IsOfLink t next (is_some (option_map ending.Lost (loss_in what)))
-served-line-by what m t seen next lived up is = by what is
+served-upstream-by what m t seen next lived up is = by what is
   where
     no : true ≡ false → ⊥
     no e = cc
@@ -174,20 +174,20 @@ looks-up : (s t : LiveSession) (now : ℕ) → live_is_late s now ≡ false → 
 unfolding session_looks
 looks-up s t now on is = ap (λ (x : LiveSession). x.down) is ∙ on
 
-pub served-line : (what : Served) (s m t : LiveSession) (now : ℕ) (calls after : List Call)
-    (why : Option Ending) → ∥ IsOfLink s (seen_in calls) false ∥₁ → live_is_late s now ≡ false
+pub served-upstream : (what : Served) (s m t : LiveSession) (now : ℕ) (calls after : List Call)
+    (why : Option EndReason) → ∥ IsOfLink s (seen_in calls) false ∥₁ → live_is_late s now ≡ false
     → m ≡ session_looks s now → IsServed what m t (seen_in calls) (seen_in after)
     → why ≡ option_map ending.Lost (loss_in what)
     → ∥ IsOfLink t (seen_in after) (is_some why) ∥₁
-served-line what s m t now calls after why own on is served ends =
+served-upstream what s m t now calls after why own on is served ends =
     ∥∥₁_map own (λ own. subst (λ w. IsOfLink t (seen_in after) (is_some w)) (sym ends)
-    (served-line-by what m t (seen_in calls) (seen_in after)
+    (served-upstream-by what m t (seen_in calls) (seen_in after)
     (looks-lived s m now (seen_in calls) own is) (looks-up s m now on is) served))
 
 -- it is to end
-pub ending-line : (s : LiveSession) (calls : List Call) (ends : Bool)
+pub ending-upstream : (s : LiveSession) (calls : List Call) (ends : Bool)
     → ∥ IsOfLink s (seen_in calls) ends ∥₁ → ∥ IsOfLink s (seen_in calls) true ∥₁
-ending-line s calls ends own = ∥∥₁_map own (λ own. record { lived = by own.lived; up = λ e. absurd (no e) })
+ending-upstream s calls ends own = ∥∥₁_map own (λ own. record { lived = by own.lived; up = λ e. absurd (no e) })
   where
     no : true ≡ false → ⊥
     no e = cc
@@ -198,10 +198,10 @@ ending-line s calls ends own = ∥∥₁_map own (λ own. record { lived = by ow
     by (inr lost) = inr (refl, lost.1)
 
 -- a chunk was loaded
-pub loads-line : (s t : LiveSession) (chunk : Load) (now : ℕ) (calls : List Call) (ends : Bool)
+pub loads-upstream : (s t : LiveSession) (chunk : CarriedChunk) (now : ℕ) (calls : List Call) (ends : Bool)
     → ends ≡ false → ∥ IsOfLink s (seen_in calls) ends ∥₁ → 0 < live_room s
     → live_is_ready s ≡ true → t ≡ session_loads s chunk now → ∥ IsOfLink t (seen_in calls) ends ∥₁
-loads-line s t chunk now calls ends on own room ready is =
+loads-upstream s t chunk now calls ends on own room ready is =
     ∥∥₁_map own (λ own. record {
       lived = inl (lived-then (Loads chunk now) s t (seen_in calls) (seen_in calls)
           (lived-of s (seen_in calls) (subst (λ b. IsOfLink s (seen_in calls) b) on own))
@@ -235,10 +235,10 @@ lost-unloads s t seen some is lost =
       );
     }
 
-pub unloads-line : (s t : LiveSession) (calls : List Call) (ends : Bool)
+pub unloads-upstream : (s t : LiveSession) (calls : List Call) (ends : Bool)
     → ∥ IsOfLink s (seen_in calls) ends ∥₁ → is_some (live_acked s) ≡ true → t ≡ session_unloads s
     → ∥ IsOfLink t (seen_in calls) ends ∥₁
-unloads-line s t calls ends own some is =
+unloads-upstream s t calls ends own some is =
     ∥∥₁_map own (λ own. record {
       lived = by own.lived;
       up = λ e. ap (λ (x : LiveSession). x.down) is ∙ own.up e;
@@ -249,26 +249,26 @@ unloads-line s t calls ends own some is =
     by (inl lived) = inl (lived-then Unloads s t (seen_in calls) (seen_in calls) lived (some, is, refl))
     by (inr lost) = inr (lost.0, lost-unloads s t (seen_in calls) some is lost.1)
 
--- a line that is not to end is up
-pub up-line : (s : LiveSession) (calls : List Call) → ∥ IsOfLink s (seen_in calls) false ∥₁
+-- an upstream that is not to end is up
+pub up-upstream : (s : LiveSession) (calls : List Call) → ∥ IsOfLink s (seen_in calls) false ∥₁
     → s.down ≡ false
-up-line s calls own = ∥∥₁_elim own (Bool-set s.down false) (λ own. own.up refl)
+up-upstream s calls own = ∥∥₁_elim own (Bool-set s.down false) (λ own. own.up refl)
 
 -- the chunk that was accepted first was taken out, if there is one
-pub acked-line : (s t : LiveSession) (calls : List Call) (ends : Bool)
+pub acked-upstream : (s t : LiveSession) (calls : List Call) (ends : Bool)
     → ∥ IsOfLink s (seen_in calls) ends ∥₁ → t ≡ session_unloads s
     → (s.accepted ≡ [] → t ≡ s) → ∥ IsOfLink t (seen_in calls) ends ∥₁
-acked-line s t calls ends own next none = by s.accepted refl
+acked-upstream s t calls ends own next none = by s.accepted refl
   where
     by : (accepted : List Accepted) → s.accepted ≡ accepted → ∥ IsOfLink t (seen_in calls) ends ∥₁
     by [] e = subst (λ x. ∥ IsOfLink x (seen_in calls) ends ∥₁) (sym (none e)) own
     by (a ∷ later) e =
-        unloads-line s t calls ends own
+        unloads-upstream s t calls ends own
         (ap (λ xs. is_some (option_map (λ (a : Accepted). a.chunk) (first_in xs))) e) next
 
--- ---- what a turn of a line is
+-- ---- what a turn of an upstream is
 
-no-loss : (why : Option Loss) → option_map ending.Lost why ≡ None → why ≡ None
+no-loss : (why : Option LossReason) → option_map ending.Lost why ≡ None → why ≡ None
 no-loss None e = refl
 no-loss (Some loss) e = absurd (lost e)
   where
@@ -283,7 +283,7 @@ neither a b x y e = no (sym (λ i. x i || y i) ∙ e)
 
 -- it was not late, and its turn came to this
 pub served-tended : (what : Served) (s m t : LiveSession) (now : ℕ) (before after : List Call)
-    (why : Option Ending) → s.down ≡ false → live_is_late s now ≡ false
+    (why : Option EndReason) → s.down ≡ false → live_is_late s now ≡ false
     → m ≡ session_looks s now → HasTurned what m t before after
     → IsServed what m t (seen_in before) (seen_in after)
     → why ≡ option_map ending.Lost (loss_in what) → IsTended s t now before after why

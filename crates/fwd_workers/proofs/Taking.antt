@@ -2,22 +2,22 @@
 use Rattle.std.proofs.Common.{◌≡◌, true, false, List, Option, Some, None, refl, sym, ap, subst, ◌∙◌}
 use Rattle.std.specs.Prelude.{ℕ, is_some, option_map}
 use Rattle.fwd_session.specs.Live.{LiveSession}
-use Rattle.fwd_workers.specs.declared.ending.Ending.{Ending}
+use Rattle.fwd_workers.specs.declared.ending.EndReason.{EndReason}
 use Rattle.fwd_workers.specs.Links.{Call}
 use Rattle.fwd_workers.specs.Working.{IsTended, Lasts}
 
 none-is : false ≡ true → ⊥
 none-is e = cc
 
--- a line is to end, or it is not
-pub by-ending : {P : Type 0} (ending : Option Ending) → (ending ≡ None → P)
-    → ((why : Ending) → ending ≡ Some why → P) → P
+-- an upstream is to end, or it is not
+pub by-ending : {P : Type 0} (ending : Option EndReason) → (ending ≡ None → P)
+    → ((why : EndReason) → ending ≡ Some why → P) → P
 by-ending None on over = on refl
 by-ending (Some why) on over = over why refl
 
 -- a session that is not to end goes on
-pub goes-on : (s t u : LiveSession) (now : ℕ) (before after : List Call) (x y : Option Ending)
-    (f : Ending → Ending) → IsTended s t now before after x → u ≡ t → y ≡ option_map f x
+pub goes-on : (s t u : LiveSession) (now : ℕ) (before after : List Call) (x y : Option EndReason)
+    (f : EndReason → EndReason) → IsTended s t now before after x → u ≡ t → y ≡ option_map f x
     → is_some y ≡ false → (y ≡ None) × Lasts s u now before
 goes-on s t u now before after None y f turn same is on =
     (is, subst (λ v. Lasts s v now before) (sym same) (after, turn))

@@ -4,10 +4,10 @@ use Rattle.std.specs.Prelude.{◌≡◌, ◌≢◌, ◌≤◌, ◌<◌, ◌⊎�
 use Rattle.std.specs.List.{AllByRecursion}
 use Rattle.fwd_modes.specs.Scans.{values_of}
 use Rattle.fwd_modes.specs.Acks.{ack_name}
-use Rattle.fwd_chunks.specs.History.{Load}
+use Rattle.fwd_chunks.specs.History.{CarriedChunk}
 use Rattle.fwd_session.specs.declared.told.SessionHeard.{SessionHeard}
 use Rattle.fwd_session.specs.declared.told.SessionHeard.TheVariants as told
-use Rattle.fwd_session.specs.Evidence.{Accepted, frame_of}
+use Rattle.fwd_session.specs.ServerAcks.{Accepted, frame_of}
 use Rattle.fwd_session.specs.Said.{reply_stream}
 use Rattle.fwd_session.specs.History.{
   Setup,
@@ -224,9 +224,9 @@ pub record IsOver (t : LiveSession) (seen : Seen) : Type 0 where
   pub bytes : AreTheLinks history seen
 
 -- One of the chunks that a session carries is acknowledged by bytes that it heard, once these were
--- written: its whole frame is among what was written, at the place where the load put it, which ends
--- where the chunk says, where the session was loaded only while it was ready; and a value that names
--- it ended among those bytes.
+-- written: its whole frame is among what was written, at the place where the load put it, which
+-- ends where the chunk says, where the session was loaded only while it was ready; and a value that
+-- names it ended among those bytes.
 pub record IsAcknowledgedBy (s : SessionHistory) (written read : List ℕ) (a : Accepted)
     : Type 0 where
   pub place : ℕ
@@ -256,7 +256,7 @@ pub record IsAcknowledged (s : SessionHistory) (before after : Seen) : Type 0 wh
 -- out
 pub data Deed : Type 0 where
   Serves : (what : Served) → Deed
-  Loads : (chunk : Load) (now : ℕ) → Deed
+  Loads : (chunk : CarriedChunk) (now : ℕ) → Deed
   Looks : (now : ℕ) → Deed
   Unloads : Deed
 
@@ -313,7 +313,7 @@ HasLife life s seen = Lives life.deeds (session_begins life.setup) s life.start 
 
 -- In a session's life so far a chunk was loaded, just behind these bytes: those that the link had
 -- taken by then, and those that waited to be sent.
-pub record WasLoadedBehind (life : Life) (s : LiveSession) (seen : Seen) (chunk : Load)
+pub record WasLoadedBehind (life : Life) (s : LiveSession) (seen : Seen) (chunk : CarriedChunk)
     (front : List ℕ) : Type 0 where
   pub before : List Deed
   pub now : ℕ
@@ -326,10 +326,10 @@ pub record WasLoadedBehind (life : Life) (s : LiveSession) (seen : Seen) (chunk 
   pub behind : front ≡ between.taken ++ prior.waiting
 
 -- The frame of one of a session's chunks was written first, at the place where the load put it, and
--- then acknowledged. Before the turn this was seen. At the first of two moments in the turn the link
--- had taken the frame, whole, just behind all that the session had been handed before its load, and
--- had not yet given the last byte of a value that names the chunk; at the second it had. The value
--- is the one of this place among all whole values that the link gave.
+-- then acknowledged. Before the turn this was seen. At the first of two moments in the turn the
+-- link had taken the frame, whole, just behind all that the session had been handed before its
+-- load, and had not yet given the last byte of a value that names the chunk; at the second it had.
+-- The value is the one of this place among all whole values that the link gave.
 pub record IsWrittenFirst (life : Life) (s : LiveSession) (before written acknowledged : Seen)
     (a : Accepted) : Type 0 where
   pub chunk : (place : ℕ) × (slice_get (live_chunks s.carried) place ≡ Some a.chunk)

@@ -28,43 +28,43 @@ use Rattle.fwd_workers.specs.Tickets.{Ticket, IsDue, receipt_for}
 
 -- an output, the totals of its two counters, and the moment up to which free chunks are left to a
 -- worker that claims them
-pub record Turn : Type 0 where
+pub record LockedState : Type 0 where
   pub output : LiveOutput
   pub accepted : ℕ
   pub settled : ℕ
   pub claimed : ℕ
 
 -- a request is admitted: its entries are accepted
-abbrev pub turn_admits : Turn → Origin → Request → ℕ → Turn
-turn_admits s origin r now = record s {
+abbrev pub locked_admits : LockedState → Origin → Request → ℕ → LockedState
+locked_admits s origin r now = record s {
   output = output_enters s.output origin r now;
   accepted = s.accepted + length r.entries;
 }
 
 -- the output is another, and nothing was accepted or settled
-abbrev pub turn_goes : Turn → LiveOutput → Turn
-turn_goes s o = record s { output = o }
+abbrev pub locked_with : LockedState → LiveOutput → LockedState
+locked_with s o = record s { output = o }
 
 -- the output is another, and so many entries were settled
-abbrev pub turn_settles : Turn → LiveOutput → ℕ → Turn
-turn_settles s o count = record s { output = o; settled = s.settled + count }
+abbrev pub locked_settles : LockedState → LiveOutput → ℕ → LockedState
+locked_settles s o count = record s { output = o; settled = s.settled + count }
 
 -- at a moment a worker claims the free chunks for the next 100 milliseconds
-abbrev pub turn_claims : Turn → (now : ℕ) → Turn
-turn_claims s now = record s { claimed = min (now + 100) (2 ^ 64 - 1) }
+abbrev pub locked_claims : LockedState → (now : ℕ) → LockedState
+locked_claims s now = record s { claimed = min (now + 100) (2 ^ 64 - 1) }
 
 -- nobody claims them
-abbrev pub turn_releases : Turn → Turn
-turn_releases s = record s { claimed = 0 }
+abbrev pub locked_releases : LockedState → LockedState
+locked_releases s = record s { claimed = 0 }
 
 -- a worker claims them at a moment
-abbrev pub is_claimed_at : Turn → (now : ℕ) → Bool
+abbrev pub is_claimed_at : LockedState → (now : ℕ) → Bool
 is_claimed_at s now = nat_lt now s.claimed
 
 -- requests of these origins leave the output's book
-abbrev pub turn_tells : Turn → List Origin → Turn
-turn_tells s origins =
-    turn_goes s (record (s.output) { book = live_leaves s.output.book origins })
+abbrev pub locked_tells : LockedState → List Origin → LockedState
+locked_tells s origins =
+    locked_with s (record (s.output) { book = live_leaves s.output.book origins })
 
 -- What comes of tickets, of which these origins' were given their receipts before: each that is
 -- due, and whose origin's was not given one before, is given its receipt; each other comes back.

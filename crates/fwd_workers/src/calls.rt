@@ -7,7 +7,7 @@ ghost use Rattle.fwd_workers.specs.Links.{Call, DidWrite, read_into};
 ghost use base.Fml.{ftrue};
 
 use crate::link::{LinkFault, Read};
-use fwd_chunks::Pieces;
+use fwd_chunks::WriteSlices;
 use std::marker::{Model, PhantomData};
 
 /// Calls that were told one after the other, none of which is kept.
@@ -62,7 +62,11 @@ impl Calls {
 
     /// A write of pieces is told behind what was told before: all their bytes, and what was
     /// answered.
-    pub fn and_write_pieces(&self, pieces: &Pieces<'_>, answer: &Result<usize, LinkFault>) -> Calls
+    pub fn and_write_pieces(
+        &self,
+        pieces: &WriteSlices<'_>,
+        answer: &Result<usize, LinkFault>,
+    ) -> Calls
         ensures { result.list ≡ self.now.list ++ DidWrite (concat pieces.now) answer.now ∷ [] }
     {
         let _ = self;

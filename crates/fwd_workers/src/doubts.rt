@@ -1,6 +1,6 @@
 //! What a worker remembers of losses, by which it chooses with which chunk it tries a server.
 
-use crate::ending::Ending;
+use crate::ending::EndReason;
 use crate::refused::{Refused, Suspect};
 use std::mem;
 
@@ -56,7 +56,7 @@ impl Doubts {
 
     /// A session with this server ended with chunks that are lost. The server is asked once more,
     /// unless it just was.
-    pub(crate) fn lose(&mut self, server: u16, why: Ending) {
+    pub(crate) fn lose(&mut self, server: u16, why: EndReason) {
         let was_asking = mem::replace(&mut self.is_asking, false);
         self.ask = if was_asking { None } else { Some(server) };
         self.refused = match self.suspect.take() {

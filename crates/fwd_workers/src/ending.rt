@@ -12,7 +12,7 @@ ghost use Rattle.fwd_workers.specs.Endings.{
   unmet_of,
 };
 
-use crate::link::{LinkFault, Loss, News};
+use crate::link::{LinkFault, LossReason, WorkerEvent};
 use crate::serve::Served;
 use fwd_chunks::Carried;
 use fwd_core::{EndKind, Leaving};
@@ -20,46 +20,47 @@ use std::alloc::Global;
 
 /// Why a session is to end.
 #[derive(Clone, Copy)]
-pub(crate) enum Ending {
+pub(crate) enum EndReason {
     /// Its link carries no further chunk.
     Spent,
     /// Its server closed its side, and owed nothing.
     Left,
     /// Its server is lost.
-    Lost(Loss),
+    Lost(LossReason),
 }
 
-impl Ending {
+impl EndReason {
     /// Whether the link is said to be lost.
     fn kind(self) -> EndKind
         ensures { result ≡ kind_of self }
     {
         match self {
-            Ending::Lost(Loss::Closed | Loss::Link(_) | Loss::Memory) => EndKind::Lost,
-            Ending::Spent | Ending::Left | Ending::Lost(Loss::Fault(_) | Loss::Late) => {
-                EndKind::Kept
-            }
+            EndReason::Lost(LossReason::Closed | LossReason::Link(_) | LossReason::Memory) =>
+                EndKind::Lost,
+            EndReason::Spent
+            | EndReason::Left
+            | EndReason::Lost(LossReason::Fault(_) | LossReason::Late) => { EndKind::Kept }
         }
     }
 
     /// What it is where the session has no chunk, and may have been greeted: a server that closes
     /// its side behind the handshake owes nothing.
-    pub(crate) fn idle(self, is_greeted: bool) -> Ending
+    pub(crate) fn idle(self, is_greeted: bool) -> EndReason
         ensures { result ≡ idle_ending self is_greeted }
     {
         match self {
-            Ending::Lost(Loss::Closed) if is_greeted => Ending::Left,
+            EndReason::Lost(LossReason::Closed) if is_greeted => EndReason::Left,
             _ => self,
         }
     }
 
     /// What is told of it, where so many chunks of the session are not acknowledged.
-    pub(crate) fn news(self, server: u16, chunks: u64) -> Option<News>
+    pub(crate) fn news(self, server: u16, chunks: u64) -> Option<WorkerEvent>
         ensures { result ≡ news_of self server chunks }
     {
         match self {
-            Ending::Spent | Ending::Left => None,
-            Ending::Lost(why) => Some(News::Lost {
+            EndReason::Spent | EndReason::Left => None,
+            EndReason::Lost(why) => Some(WorkerEvent::Lost {
                 server,
                 why,
                 chunks,
@@ -69,7 +70,7 @@ impl Ending {
 }
 
 /// Whether the link of a session is said to be lost, where its worker ends, or it is to end itself.
-pub(crate) fn kind_in(ending: Option<Ending>) -> EndKind
+pub(crate) fn kind_in(ending: Option<EndReason>) -> EndKind
     ensures { result ≡ kind_in ending }
 {
     match ending {
@@ -79,35 +80,35 @@ pub(crate) fn kind_in(ending: Option<Ending>) -> EndKind
 }
 
 /// Why the server is lost after a turn, if it is.
-pub(crate) fn loss_in(served: Served) -> Option<Loss>
+pub(crate) fn loss_in(served: Served) -> Option<LossReason>
     ensures { result ≡ loss_in served }
 {
     match served {
         Served::Quiet | Served::Ready | Served::Acked => None,
-        Served::Down(fault) => Some(Loss::Fault(fault)),
-        Served::Closed => Some(Loss::Closed),
-        Served::Failed(fault) => Some(Loss::Link(fault)),
-        Served::Memory => Some(Loss::Memory),
+        Served::Down(fault) => Some(LossReason::Fault(fault)),
+        Served::Closed => Some(LossReason::Closed),
+        Served::Failed(fault) => Some(LossReason::Link(fault)),
+        Served::Memory => Some(LossReason::Memory),
     }
 }
 
 /// Why no session began with a server.
 #[derive(Clone, Copy)]
-pub(crate) enum Unmet {
+pub(crate) enum NoSession {
     /// No link to it could be had.
     Link(LinkFault),
     /// Memory was refused.
     Memory,
 }
 
-impl Unmet {
+impl NoSession {
     /// Why no session began, where no link could be had: no server is to blame for want of memory.
-    pub(crate) fn of(fault: LinkFault) -> Unmet
+    pub(crate) fn of(fault: LinkFault) -> NoSession
         ensures { result ≡ unmet_of fault }
     {
         match fault {
-            LinkFault::Memory => Unmet::Memory,
-            _ => Unmet::Link(fault),
+            LinkFault::Memory => NoSession::Memory,
+            _ => NoSession::Link(fault),
         }
     }
 
@@ -119,8 +120,8 @@ impl Unmet {
         ensures server { result.server ≡ blamed self server }
     {
         let server = match self {
-            Unmet::Link(_) => Some(server),
-            Unmet::Memory => None,
+            NoSession::Link(_) => Some(server),
+            NoSession::Memory => None,
         };
         Leaving {
             taken,
@@ -130,12 +131,12 @@ impl Unmet {
     }
 
     /// What is told of it.
-    pub(crate) fn news(self, server: u16) -> Option<News>
+    pub(crate) fn news(self, server: u16) -> Option<WorkerEvent>
         ensures { result ≡ unmet_news self server }
     {
         match self {
-            Unmet::Link(fault) => Ending::Lost(Loss::Link(fault)).news(server, 0),
-            Unmet::Memory => Ending::Lost(Loss::Memory).news(server, 0),
+            NoSession::Link(fault) => EndReason::Lost(LossReason::Link(fault)).news(server, 0),
+            NoSession::Memory => EndReason::Lost(LossReason::Memory).news(server, 0),
         }
     }
 }

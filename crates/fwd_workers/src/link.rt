@@ -17,7 +17,7 @@ ghost use Rattle.fwd_chunks.specs.Lending.{AreSome};
 ghost use Rattle.fwd_workers.specs.Links.{Call, DidWrite, HasOffered, count_read, read_into};
 
 use crate::refused::Refused;
-use fwd_chunks::Pieces;
+use fwd_chunks::WriteSlices;
 use fwd_session::SessionFault;
 use std::sync::Wait;
 
@@ -66,7 +66,11 @@ pub trait Link: Drop {
 
     /// Writes once, from the first of these pieces on, as if they were one: how many bytes it took,
     /// which may be none. It may wait. A link without a call for several takes of the first alone.
-    fn write_pieces<R: Wait>(&mut self, rt: &R, pieces: &Pieces<'_>) -> Result<usize, LinkFault>
+    fn write_pieces<R: Wait>(
+        &mut self,
+        rt: &R,
+        pieces: &WriteSlices<'_>,
+    ) -> Result<usize, LinkFault>
         requires some { 0 < length (concat pieces.now) }
         requires each { AreSome pieces.now }
         ensures told { HasOffered (concat pieces.now) (calls self.old) (calls self.new) result }
@@ -118,7 +122,7 @@ pub enum Pass {
 
 /// Why a session with a server ended, and the server counts as lost.
 #[derive(Clone, Copy)]
-pub enum Loss {
+pub enum LossReason {
     /// Its link could not be had, or failed.
     Link(LinkFault),
     /// The server closed its side.
@@ -133,14 +137,23 @@ pub enum Loss {
 
 /// What a worker tells as it goes on.
 #[derive(Clone, Copy)]
-pub enum News {
+pub enum WorkerEvent {
     /// The entries of the chunk of this number are settled, by this server.
-    Settled { number: u64, server: u16 },
+    Settled {
+        number: u64,
+        server: u16,
+    },
     /// A server is lost, in a session of which so many chunks were not acknowledged: they are sent
     /// again.
-    Lost { server: u16, why: Loss, chunks: u64 },
+    Lost {
+        server: u16,
+        why: LossReason,
+        chunks: u64,
+    },
     /// A chunk is sent to this server, and the worker's last one was sent to another.
-    Went { server: u16 },
+    Went {
+        server: u16,
+    },
 }
 
 /// Lets workers go on, holds them up, or ends them; and is told what they came to.
@@ -150,7 +163,7 @@ pub trait Gate {
     fn pass<R: Wait>(&mut self, rt: &R, worker: u16, place: Place, turn: u64) -> Pass;
 
     /// The worker of this number tells what its turn came to.
-    fn hear<R: Wait>(&mut self, _rt: &R, _worker: u16, _news: News) {}
+    fn hear<R: Wait>(&mut self, _rt: &R, _worker: u16, _news: WorkerEvent) {}
 
     /// The worker of this number tells that a server seems to refuse a chunk.
     fn hear_refused<R: Wait>(&mut self, _rt: &R, _worker: u16, _refused: Refused) {}

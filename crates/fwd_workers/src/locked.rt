@@ -32,7 +32,7 @@ ghost use Rattle.fwd_chunks.specs.Live.{
   live_counts,
   live_flushes,
   live_given,
-  live_load,
+  live_carried_chunk,
   live_looks,
   live_losses,
   live_takes,
@@ -40,7 +40,7 @@ ghost use Rattle.fwd_chunks.specs.Live.{
 ghost use Rattle.fwd_chunks.specs.Soundness.{IsSound};
 ghost use Rattle.fwd_chunks.specs.TagCounts.{AddsUp, IsSnapshot, live_report};
 ghost use Rattle.fwd_core.specs.Doubts.{live_is_doubted, live_trusted};
-ghost use Rattle.fwd_session.specs.Evidence.{IsEvidence};
+ghost use Rattle.fwd_session.specs.ServerAcks.{IsServerAck};
 ghost use Rattle.fwd_book.specs.Live.{IsSound as IsSoundBook, live_leaves};
 ghost use Rattle.fwd_core.specs.Outputs.{
   live_count_at,
@@ -68,15 +68,15 @@ ghost use Rattle.fwd_workers.specs.Turns.{
   origins_of,
   receipts_for,
   is_claimed_at,
-  turn_admits,
-  turn_claims,
-  turn_goes,
-  turn_releases,
-  turn_settles,
-  turn_tells,
+  locked_admits,
+  locked_claims,
+  locked_with,
+  locked_releases,
+  locked_settles,
+  locked_tells,
 };
 
-use crate::begun::Begun;
+use crate::chunk_starts::ChunkStarts;
 use crate::collecting::{due_of, hand_out, shows};
 use crate::outlook::{Outlook, Picked};
 use crate::refusal::AdmitRefusal;
@@ -106,14 +106,14 @@ pub struct Locked<A: Tally, S: Tally> {
     claimed: u64,
     /// When the chunks were begun that are not settled. Where memory is refused for a chunk it does
     /// not stand there.
-    begun: Begun,
+    begun: ChunkStarts,
 }
 
 impl<A: Tally, S: Tally> Model for Locked<A, S> {
     ghost use Rattle.std.specs.Prelude.{◌≡◌};
-    ghost use Rattle.fwd_workers.specs.Turns.{Turn};
+    ghost use Rattle.fwd_workers.specs.Turns.{LockedState};
 
-    ghost Value = { Turn };
+    ghost Value = { LockedState };
 
     ghost view = { λ s. record {
       output = s.state;
@@ -143,7 +143,7 @@ impl<A: Tally, S: Tally> Locked<A, S> {
             accepted,
             settled,
             claimed: 0,
-            begun: Begun::new(alloc),
+            begun: ChunkStarts::new(alloc),
         }
     }
 
@@ -210,7 +210,7 @@ impl<A: Tally, S: Tally> Locked<A, S> {
         ensures refused { IfSome (refusal_at self.old.output origin batch now) (λ why.
             result ≡ Err (why, batch)) }
         ensures ticket { IfOk result (λ t. t ≡ ticket_for self.old.output origin batch now) }
-        ensures ok { OnOk result (self.new ≡ turn_admits self.old origin batch now) }
+        ensures ok { OnOk result (self.new ≡ locked_admits self.old origin batch now) }
         ensures memory { refusal_at self.old.output origin batch now ≡ None
             → IfErr result (λ e. e.0 ≡ AdmitRefusal.Memory) }
         ensures back { IfErr result (λ e. e.1 ≡ batch) }
@@ -247,7 +247,7 @@ impl<A: Tally, S: Tally> Locked<A, S> {
         ensures collected { IfOk result (λ p. (told : List AbstractTicket)
             × AreCollected self.old.output.book [] tickets.items told p.1.items
             × (p.0.items ≡ receipts_for self.old.output.book told)
-            × (self.new ≡ turn_tells self.old (origins_of told))) }
+            × (self.new ≡ locked_tells self.old (origins_of told))) }
         ensures each { IfOk result (λ p. IsPermutation tickets.items
             (map (ticket_of self.old.output.book.setting) p.0.items ++ p.1.items)) }
         ensures right { IfOk result (λ p. All (λ r.
@@ -272,7 +272,7 @@ impl<A: Tally, S: Tally> Locked<A, S> {
     /// ticket of a request that the output does not owe an answer to is only spent.
     pub fn abandon(&mut self, ticket: Ticket)
         ensures shown { IsShown self.old.output.book ticket
-            → self.new ≡ turn_tells self.old (ticket.origin ∷ []) }
+            → self.new ≡ locked_tells self.old (ticket.origin ∷ []) }
         ensures other { ¬ (IsShown self.old.output.book ticket) → self.new ≡ self.old }
     {
         if shows(&self.state, &ticket) {
@@ -285,14 +285,14 @@ impl<A: Tally, S: Tally> Locked<A, S> {
     /// session was sought for a chunk that was lost, which else any worker would take, at the very
     /// moment at which the server that lost it is tried again.
     pub(crate) fn claim(&mut self, now: u64)
-        ensures { self.new ≡ turn_claims self.old now }
+        ensures { self.new ≡ locked_claims self.old now }
     {
         self.claimed = now.saturating_add(CLAIM);
     }
 
     /// A worker that claimed a free chunk took one.
     pub(crate) fn release(&mut self)
-        ensures { self.new ≡ turn_releases self.old }
+        ensures { self.new ≡ locked_releases self.old }
     {
         self.claimed = 0;
     }
@@ -307,7 +307,7 @@ impl<A: Tally, S: Tally> Locked<A, S> {
     /// Closes the open chunks that a flush closes at a moment (milliseconds), and answers how many.
     pub fn flush(&mut self, now: u64, kind: FlushKind) -> usize
         ensures count { result ≡ length (live_closing self.old.output.buffer now kind) }
-        ensures flushed { self.new ≡ turn_goes self.old (record (self.old.output) {
+        ensures flushed { self.new ≡ locked_with self.old (record (self.old.output) {
           buffer = live_flushes self.old.output.buffer now kind;
         }) }
     {
@@ -317,7 +317,7 @@ impl<A: Tally, S: Tally> Locked<A, S> {
     /// The server that a worker tries at a moment (milliseconds), if one is usable.
     pub fn choose(&mut self, worker: u16, now: u64) -> Option<u16>
         ensures choice { result ≡ output_choice self.old.output worker now }
-        ensures looked { self.new ≡ turn_goes self.old (output_looks self.old.output now) }
+        ensures looked { self.new ≡ locked_with self.old (output_looks self.old.output now) }
     {
         self.state.choose(worker, now)
     }
@@ -332,9 +332,9 @@ impl<A: Tally, S: Tally> Locked<A, S> {
         now: u64,
     ) -> Result<Option<Carried>, AllocError>
         ensures given { IfOk result (λ carried. carried ≡ option_map
-            (live_load self.old.output.buffer)
+            (live_carried_chunk self.old.output.buffer)
             (live_given (live_looks self.old.output.buffer now))) }
-        ensures ok { OnOk result (self.new ≡ turn_goes self.old (record (self.old.output) {
+        ensures ok { OnOk result (self.new ≡ locked_with self.old (record (self.old.output) {
           buffer = live_takes self.old.output.buffer worker now;
         })) }
         ensures err { OnErr result (self.new ≡ self.old) }
@@ -357,11 +357,11 @@ impl<A: Tally, S: Tally> Locked<A, S> {
         now: u64,
     ) -> Result<Option<Picked>, AllocError>
         ensures given { IfOk result (λ picked. option_map (λ p. p.chunk) picked ≡ option_map
-            (live_load self.old.output.buffer)
+            (live_carried_chunk self.old.output.buffer)
             (live_given (live_looks self.old.output.buffer now))) }
         ensures losses { IfOk result (λ picked. IfSome picked (λ p.
             p.losses ≡ live_losses self.new.output.buffer p.chunk.number)) }
-        ensures ok { OnOk result (self.new ≡ turn_goes self.old (record (self.old.output) {
+        ensures ok { OnOk result (self.new ≡ locked_with self.old (record (self.old.output) {
           buffer = live_takes self.old.output.buffer worker now;
         })) }
         ensures err { OnErr result (self.new ≡ self.old) }
@@ -383,7 +383,7 @@ impl<A: Tally, S: Tally> Locked<A, S> {
             result.is_doubted ≡ live_is_doubted self.new.output.servers server) }
         ensures trusted { result.trusted ≡ live_trusted self.new.output.servers worker }
         ensures claimed { result.is_claimed ≡ is_claimed_at self.old now }
-        ensures looked { self.new ≡ turn_goes self.old (output_looks self.old.output now) }
+        ensures looked { self.new ≡ locked_with self.old (output_looks self.old.output now) }
     {
         let server = self.state.choose(worker, now);
         let is_doubted = match server {
@@ -409,9 +409,9 @@ impl<A: Tally, S: Tally> Locked<A, S> {
     /// A chunk that no worker has from this output changes nothing, and counts 0; no more is
     /// counted than the chunk's own entries.
     pub fn settle(&mut self, seat: &mut S::Seat, acked: Arc<Acked>, carried: Carried) -> u64
-        requires { IsEvidence (arc_value acked) carried }
+        requires { IsServerAck (arc_value acked) carried }
         ensures here { IsCarried self.old.output.buffer carried → self.new
-            ≡ turn_settles self.old (output_settles self.old.output (arc_value acked)) result }
+            ≡ locked_settles self.old (output_settles self.old.output (arc_value acked)) result }
         ensures count { IsCarried self.old.output.buffer carried
             → result ≡ live_count_at carried.number self.old.output }
         ensures elsewhere { ¬ (IsCarried self.old.output.buffer carried)
@@ -441,12 +441,12 @@ impl<A: Tally, S: Tally> Locked<A, S> {
         now: u64,
     )
         ensures here { AreHere self.old.output.buffer (option_to_list taken ++ loaded.items)
-            → self.new ≡ turn_goes self.old
+            → self.new ≡ locked_with self.old
             (output_ends self.old.output (returned taken loaded.items) server now) }
         ensures each { IsHandedBack (live_looks self.old.output.buffer now)
             (map kept_back (option_to_list taken) ++ map lost_back loaded.items) now
             self.new.output.buffer }
-        ensures rest { self.new ≡ turn_goes self.old (record (self.old.output) {
+        ensures rest { self.new ≡ locked_with self.old (record (self.old.output) {
           buffer = self.new.output.buffer;
           servers = live_loses self.old.output.servers server
               (max self.old.output.buffer.moment now);

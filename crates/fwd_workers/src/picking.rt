@@ -2,10 +2,10 @@
 
 ghost use Rattle.std.specs.Prelude.{◌≡◌, Some, None, []};
 
+use crate::leaving::give_back;
 use crate::outlook::Picked;
-use crate::parting::give_back;
-use crate::round::Round;
 use crate::tally::Tally;
+use crate::turn_context::TurnContext;
 use fwd_core::Leaving;
 use std::alloc::Global;
 use std::sync::Wait;
@@ -26,14 +26,17 @@ pub(crate) fn unused(alloc: Global, picked: Picked) -> Leaving
 
 /// The free chunk of the least number, if there is one. Where memory is refused there is none.
 pub(crate) fn pick<A: Tally, S: Tally, R: Wait>(
-    round: &Round<'_, A, S, R>,
+    context: &TurnContext<'_, A, S, R>,
     alloc: Global,
     seat: &mut S::Seat,
     worker: u16,
 ) -> Option<Picked>
     ensures { seat.new ≡ seat.old }
 {
-    match round.out.pick(round.rt, alloc, seat, worker, round.now) {
+    match context
+        .out
+        .pick(context.rt, alloc, seat, worker, context.now)
+    {
         Ok(picked) => picked,
         Err(_) => None,
     }
@@ -42,7 +45,7 @@ pub(crate) fn pick<A: Tally, S: Tally, R: Wait>(
 /// The first free chunk that was not lost before, past so many others at the most; where there is
 /// none, the free chunk of the least number. The others go back without a loss.
 pub(crate) fn fresh<A: Tally, S: Tally, R: Wait>(
-    round: &Round<'_, A, S, R>,
+    context: &TurnContext<'_, A, S, R>,
     alloc: Global,
     seat: &mut S::Seat,
     worker: u16,
@@ -50,18 +53,18 @@ pub(crate) fn fresh<A: Tally, S: Tally, R: Wait>(
 ) -> Option<Picked>
     ensures { seat.new ≡ seat.old }
 {
-    let first = pick(round, alloc, seat, worker)?;
+    let first = pick(context, alloc, seat, worker)?;
     if !first.was_lost() || most == 0 {
         return Some(first);
     }
-    match fresh(round, alloc, seat, worker, most - 1) {
+    match fresh(context, alloc, seat, worker, most - 1) {
         None => Some(first),
         Some(next) if next.was_lost() => {
-            give_back(round, seat, unused(alloc, next));
+            give_back(context, seat, unused(alloc, next));
             Some(first)
         }
         Some(next) => {
-            give_back(round, seat, unused(alloc, first));
+            give_back(context, seat, unused(alloc, first));
             Some(next)
         }
     }

@@ -1,7 +1,7 @@
 //! A chunk that a server seems to refuse, as it is told.
 
-use crate::ending::Ending;
-use crate::link::Loss;
+use crate::ending::EndReason;
+use crate::link::LossReason;
 use fwd_chunks::Carried;
 
 /// How many bytes of a tag are told.
@@ -45,7 +45,7 @@ pub struct Refused {
     /// How often it was lost, where 65 stands for every greater count.
     pub losses: u8,
     /// Why its last session ended.
-    pub why: Loss,
+    pub why: LossReason,
 }
 
 /// A chunk that was lost before, in a session with a server that is known to work.
@@ -67,8 +67,8 @@ impl Suspect {
     }
 
     /// What is told of it, where its session with this server ended for a loss.
-    pub(crate) fn refused(self, server: u16, why: Ending) -> Option<Refused> {
-        let Ending::Lost(why) = why else {
+    pub(crate) fn refused(self, server: u16, why: EndReason) -> Option<Refused> {
+        let EndReason::Lost(why) = why else {
             return None;
         };
         let Suspect { tag, size, losses } = self;

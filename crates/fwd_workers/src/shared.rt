@@ -18,7 +18,7 @@ ghost use Rattle.std.specs.List.Sorted.{IsPermutation};
 ghost use Rattle.fwd_chunks.specs.Live.{LiveBuffer};
 ghost use Rattle.fwd_chunks.specs.Soundness.{IsSound};
 ghost use Rattle.fwd_chunks.specs.TagCounts.{AddsUp, IsSnapshot, live_report};
-ghost use Rattle.fwd_session.specs.Evidence.{IsEvidence};
+ghost use Rattle.fwd_session.specs.ServerAcks.{IsServerAck};
 ghost use Rattle.fwd_book.specs.History.{BookSetting};
 ghost use Rattle.fwd_workers.specs.Seats.{parts_of, counts_of};
 ghost use Rattle.fwd_workers.specs.Tickets.{AreGiven, IsRight, ticket_of};
@@ -202,7 +202,7 @@ impl<A: Tally, S: Tally> SharedOutput<A, S> {
         acked: Arc<Acked>,
         carried: Carried,
     ) -> u64
-        requires { IsEvidence (arc_value acked) carried }
+        requires { IsServerAck (arc_value acked) carried }
         ensures most { result ≤ length carried.entries }
         ensures counted { S.count seat.new ≡ S.count seat.old + S.kept result }
         ensures parts { S.parts seat.new ≡ S.parts seat.old }

@@ -27,19 +27,19 @@ ghost use Rattle.fwd_workers.specs.Working.{
 };
 
 use crate::doubts::Doubts;
-use crate::ending::{Ending, Unmet};
+use crate::ending::{EndReason, NoSession};
 use crate::gating::place;
-use crate::line::{FreeLine, Line, RoomyLine, Stage};
-use crate::link::{Clock, Gate, Hub, Link, Loss, News, Pass};
+use crate::leaving::{end_free, finish, give_back, give_back_now, lose_upstream, settle_upstream};
+use crate::link::{Clock, Gate, Hub, Link, LossReason, Pass, WorkerEvent};
 use crate::outlook::{Outlook, Picked};
-use crate::parting::{end_free, finish, give_back, lose_line, miss, settle_line};
 use crate::picking::{fresh, pick, unused};
 use crate::refused::Suspect;
-use crate::round::{Round, World};
 use crate::serve::ROOM;
 use crate::shared::SharedOutput;
 use crate::tally::Tally;
-use crate::tending::{ended, excuse, free_line, serve, serve_free, to_end};
+use crate::turn_context::{Outside, TurnContext};
+use crate::upstream::{IdleUpstream, Upstream, UpstreamWithRoom, WorkerState};
+use crate::upstream_turn::{allow_close, ended, free_upstream, serve, serve_free, to_end};
 use fwd_base::Bytes;
 use fwd_chunks::{Carried, FlushKind};
 use fwd_core::{AckTerms, OwnedSalt};
@@ -57,7 +57,7 @@ const SUSPECT: u8 = 2;
 
 /// Why a worker's run ended.
 #[derive(Clone, Copy)]
-pub enum Ended {
+pub enum WorkerEnd {
     /// The gate stopped it.
     Stopped,
     /// It made all its turns.
@@ -78,7 +78,7 @@ pub struct Worker {
     /// The server that its last chunk was loaded for, or before the first the one that it tried.
     last: Option<u16>,
     /// What the turn came to, until it is told.
-    news: Option<News>,
+    news: Option<WorkerEvent>,
     doubts: Doubts,
 }
 
@@ -133,7 +133,7 @@ impl Worker {
         gate: &mut G,
         clock: &mut C,
         turns: u64,
-    ) -> (S::Seat, Ended)
+    ) -> (S::Seat, WorkerEnd)
         ensures count { S.count seat ≤ S.count result.0 }
         ensures most { ∥ IsEarned (λ link. H.Line.calls link) (λ n. S.kept n) (S.count seat)
             (S.count result.0) ∥₁ }
@@ -141,33 +141,33 @@ impl Worker {
     {
         self.make_room();
         let mut seat = seat;
-        let mut stage: Stage<H::Line> = Stage::Idle;
+        let mut stage: WorkerState<H::Line> = WorkerState::Idle;
         for turn in 0..turns {
             let pass = match place(&stage) {
                 None => Pass::Go,
                 Some(place) => gate.pass(rt, self.number, place, turn),
             };
             let now = clock.now();
-            let round = Round { rt, out, now };
+            let context = TurnContext { rt, out, now };
             match pass {
                 Pass::Go => {
-                    let mut world = World {
+                    let mut outside = Outside {
                         hub: &mut *hub,
                         clock: &mut *clock,
                     };
-                    stage = self.step(&round, &mut seat, &mut world, stage);
+                    stage = self.step(&context, &mut seat, &mut outside, stage);
                     self.tell(rt, gate);
                 }
                 Pass::Hold => {}
                 Pass::Stop => {
-                    finish(&round, &mut seat, stage);
-                    return (seat, Ended::Stopped);
+                    finish(&context, &mut seat, stage);
+                    return (seat, WorkerEnd::Stopped);
                 }
             }
         }
         let now = clock.now();
-        finish(&Round { rt, out, now }, &mut seat, stage);
-        (seat, Ended::TurnsSpent)
+        finish(&TurnContext { rt, out, now }, &mut seat, stage);
+        (seat, WorkerEnd::TurnsSpent)
     }
 
     /// The gate is told what the turn came to.
@@ -183,11 +183,11 @@ impl Worker {
     /// One turn from where the worker stands. Only what was acknowledged before is settled.
     fn step<A: Tally, S: Tally, H: Hub, C: Clock, R: Wait>(
         &mut self,
-        round: &Round<'_, A, S, R>,
+        context: &TurnContext<'_, A, S, R>,
         seat: &mut S::Seat,
-        world: &mut World<'_, H, C>,
-        stage: Stage<H::Line>,
-    ) -> Stage<H::Line>
+        outside: &mut Outside<'_, H, C>,
+        stage: WorkerState<H::Line>,
+    ) -> WorkerState<H::Line>
         ensures same { accepted_at stage ≡ [] → seat.new ≡ seat.old }
         ensures count { S.count seat.old ≤ S.count seat.new }
         ensures most { S.count seat.new
@@ -195,14 +195,14 @@ impl Worker {
         ensures parts { S.parts seat.new ≡ S.parts seat.old }
     {
         match stage {
-            Stage::Idle => self.begin(round, seat, world),
-            Stage::Seeking => self.seek(round, seat, world),
-            Stage::Sought(free) => self.take_first(round, seat, free),
-            Stage::Standing(free) => self.take_next(round, seat, world, free),
-            Stage::Took(free, chunk) => self.load(round, seat, free, chunk),
-            Stage::Added(roomy, chunk) => self.load_more(round, seat, roomy, chunk),
-            Stage::Loaded(line) => self.settle(round, seat, line),
-            Stage::Settled(line) => self.go_on(round, seat, line),
+            WorkerState::Idle => self.begin(context, seat, outside),
+            WorkerState::Seeking => self.seek(context, seat, outside),
+            WorkerState::Sought(free) => self.take_first(context, seat, free),
+            WorkerState::Standing(free) => self.take_next(context, seat, outside, free),
+            WorkerState::Took(free, chunk) => self.load(context, seat, free, chunk),
+            WorkerState::Added(roomy, chunk) => self.load_more(context, seat, roomy, chunk),
+            WorkerState::Loaded(upstream) => self.settle(context, seat, upstream),
+            WorkerState::Settled(upstream) => self.go_on(context, seat, upstream),
         }
     }
 
@@ -212,20 +212,20 @@ impl Worker {
     /// left to it.
     fn begin<A: Tally, S: Tally, H: Hub, C: Clock, R: Wait>(
         &mut self,
-        round: &Round<'_, A, S, R>,
+        context: &TurnContext<'_, A, S, R>,
         seat: &mut S::Seat,
-        world: &mut World<'_, H, C>,
-    ) -> Stage<H::Line>
+        outside: &mut Outside<'_, H, C>,
+    ) -> WorkerState<H::Line>
         ensures same { seat.new ≡ seat.old }
         ensures begun { HasBegun result (setup_by (arc_value self.old.login)
-            (hex_drawn 0 4 self.old.rng) self.old.acks round.entry.now.now) }
+            (hex_drawn 0 4 self.old.rng) self.old.acks context.entry.now.now) }
     {
-        let outlook = round.out.outlook(round.rt, self.number, round.now);
+        let outlook = context.out.outlook(context.rt, self.number, context.now);
         let Some(server) = outlook.open_server() else {
-            return Stage::Idle;
+            return WorkerState::Idle;
         };
-        let Some(picked) = self.next_chunk(round, seat, outlook.is_doubted) else {
-            return Stage::Idle;
+        let Some(picked) = self.next_chunk(context, seat, outlook.is_doubted) else {
+            return WorkerState::Idle;
         };
         let server = if picked.was_lost() {
             outlook.server_for_lost(server)
@@ -233,20 +233,20 @@ impl Worker {
             server
         };
         let chunk = self.note(picked);
-        match self.meet(round, world.hub, server) {
+        match self.meet(context, outside.hub, server) {
             Ok(free) => {
                 self.doubts.begin();
-                Stage::Took(free, chunk)
+                WorkerState::Took(free, chunk)
             }
             Err(why) => {
                 self.tell_unmet(why, server);
-                miss(
-                    round,
+                give_back_now(
+                    context,
                     seat,
-                    world.clock,
+                    outside.clock,
                     why.leaving(self.alloc, Some(chunk), server),
                 );
-                Stage::Idle
+                WorkerState::Idle
             }
         }
     }
@@ -256,27 +256,27 @@ impl Worker {
     /// holds nothing, there is nothing to seek a server for.
     fn seek<A: Tally, S: Tally, H: Hub, C: Clock, R: Wait>(
         &mut self,
-        round: &Round<'_, A, S, R>,
+        context: &TurnContext<'_, A, S, R>,
         seat: &mut S::Seat,
-        world: &mut World<'_, H, C>,
-    ) -> Stage<H::Line>
+        outside: &mut Outside<'_, H, C>,
+    ) -> WorkerState<H::Line>
         ensures same { seat.new ≡ seat.old }
         ensures sought { HasSought result (setup_by (arc_value self.old.login)
-            (hex_drawn 0 4 self.old.rng) self.old.acks round.entry.now.now) }
+            (hex_drawn 0 4 self.old.rng) self.old.acks context.entry.now.now) }
     {
-        if round.out.counts(round.rt).held == 0 {
-            return Stage::Idle;
+        if context.out.counts(context.rt).held == 0 {
+            return WorkerState::Idle;
         }
-        let outlook = round.out.outlook(round.rt, self.number, round.now);
-        if let Some(server) = self.to_ask(round, seat, outlook) {
-            return self.ask(round, world, server);
+        let outlook = context.out.outlook(context.rt, self.number, context.now);
+        if let Some(server) = self.to_ask(context, seat, outlook) {
+            return self.ask(context, outside, server);
         }
         let Some(server) = outlook.server else {
-            return Stage::Seeking;
+            return WorkerState::Seeking;
         };
-        match self.try_server(round, seat, world, outlook.server_for_lost(server)) {
-            Some(free) => Stage::Sought(free),
-            None => Stage::Seeking,
+        match self.try_server(context, seat, outside, outlook.server_for_lost(server)) {
+            Some(free) => WorkerState::Sought(free),
+            None => WorkerState::Seeking,
         }
     }
 
@@ -285,7 +285,7 @@ impl Worker {
     /// No clause can see through the lock that one is free: it is tested.
     fn to_ask<A: Tally, S: Tally, R: Wait>(
         &mut self,
-        round: &Round<'_, A, S, R>,
+        context: &TurnContext<'_, A, S, R>,
         seat: &mut S::Seat,
         outlook: Outlook,
     ) -> Option<u16>
@@ -296,8 +296,8 @@ impl Worker {
         if outlook.is_claimed || outlook.server == Some(server) {
             return None;
         }
-        let picked = self.next_chunk(round, seat, true)?;
-        give_back(round, seat, unused(self.alloc, picked));
+        let picked = self.next_chunk(context, seat, true)?;
+        give_back(context, seat, unused(self.alloc, picked));
         self.doubts.ask = None;
         Some(server)
     }
@@ -306,19 +306,19 @@ impl Worker {
     /// is known of it than before: that is no loss, and is not told.
     fn ask<A: Tally, S: Tally, H: Hub, C: Clock, R: Wait>(
         &mut self,
-        round: &Round<'_, A, S, R>,
-        world: &mut World<'_, H, C>,
+        context: &TurnContext<'_, A, S, R>,
+        outside: &mut Outside<'_, H, C>,
         server: u16,
-    ) -> Stage<H::Line>
+    ) -> WorkerState<H::Line>
         ensures { HasSought result (setup_by (arc_value self.old.login)
-            (hex_drawn 0 4 self.old.rng) self.old.acks round.entry.now.now) }
+            (hex_drawn 0 4 self.old.rng) self.old.acks context.entry.now.now) }
     {
-        match self.meet(round, world.hub, server) {
+        match self.meet(context, outside.hub, server) {
             Ok(free) => {
                 self.doubts.is_asking = true;
-                Stage::Sought(free)
+                WorkerState::Sought(free)
             }
-            Err(_) => Stage::Seeking,
+            Err(_) => WorkerState::Seeking,
         }
     }
 
@@ -326,27 +326,27 @@ impl Worker {
     /// which is told.
     fn try_server<A: Tally, S: Tally, H: Hub, C: Clock, R: Wait>(
         &mut self,
-        round: &Round<'_, A, S, R>,
+        context: &TurnContext<'_, A, S, R>,
         seat: &mut S::Seat,
-        world: &mut World<'_, H, C>,
+        outside: &mut Outside<'_, H, C>,
         server: u16,
-    ) -> Option<FreeLine<H::Line>>
+    ) -> Option<IdleUpstream<H::Line>>
         ensures same { seat.new ≡ seat.old }
-        ensures begun { IfSome result (λ free. (free.line.ending ≡ None)
-            × (free.line.session ≡ session_begins (setup_by (arc_value self.old.login)
-            (hex_drawn 0 4 self.old.rng) self.old.acks round.entry.now.now server))) }
+        ensures begun { IfSome result (λ free. (free.upstream.ending ≡ None)
+            × (free.upstream.session ≡ session_begins (setup_by (arc_value self.old.login)
+            (hex_drawn 0 4 self.old.rng) self.old.acks context.entry.now.now server))) }
     {
-        match self.meet(round, world.hub, server) {
+        match self.meet(context, outside.hub, server) {
             Ok(free) => {
                 self.doubts.begin();
                 Some(free)
             }
             Err(why) => {
                 self.tell_unmet(why, server);
-                miss(
-                    round,
+                give_back_now(
+                    context,
                     seat,
-                    world.clock,
+                    outside.clock,
                     why.leaving(self.alloc, None, server),
                 );
                 None
@@ -356,7 +356,7 @@ impl Worker {
 
     /// No session began with a server, which is told. A worker that goes to another one is to tell
     /// that, also where it sent no chunk yet.
-    fn tell_unmet(&mut self, why: Unmet, server: u16)
+    fn tell_unmet(&mut self, why: NoSession, server: u16)
         ensures told { self.new.news ≡ unmet_news why server }
         ensures first { self.old.last ≡ None → self.new.last ≡ Some server }
         ensures later { IfSome self.old.last (λ last. self.new.last ≡ Some last) }
@@ -370,18 +370,18 @@ impl Worker {
     /// is left also where that works and is said to be lost, by another worker's session.
     fn go_over<A: Tally, S: Tally, H: Hub, C: Clock, R: Wait>(
         &mut self,
-        round: &Round<'_, A, S, R>,
+        context: &TurnContext<'_, A, S, R>,
         seat: &mut S::Seat,
-        world: &mut World<'_, H, C>,
+        outside: &mut Outside<'_, H, C>,
         to: Option<u16>,
-    ) -> Option<FreeLine<H::Line>>
+    ) -> Option<IdleUpstream<H::Line>>
         ensures same { seat.new ≡ seat.old }
-        ensures begun { IfSome result (λ free. (free.line.ending ≡ None)
+        ensures begun { IfSome result (λ free. (free.upstream.ending ≡ None)
             × Begins (setup_by (arc_value self.old.login) (hex_drawn 0 4 self.old.rng)
-            self.old.acks round.entry.now.now) free.line.session) }
+            self.old.acks context.entry.now.now) free.upstream.session) }
     {
         let server = to?;
-        self.try_server(round, seat, world, server)
+        self.try_server(context, seat, outside, server)
     }
 
     /// The next chunk, if there is one; where a server is to be tried that is not known to work,
@@ -390,17 +390,17 @@ impl Worker {
     /// and takes for this worker, no clause can see through the lock: it is tested.
     fn next_chunk<A: Tally, S: Tally, R: Wait>(
         &self,
-        round: &Round<'_, A, S, R>,
+        context: &TurnContext<'_, A, S, R>,
         seat: &mut S::Seat,
         is_doubted: bool,
     ) -> Option<Picked>
         ensures { seat.new ≡ seat.old }
     {
-        round.out.flush(round.rt, round.now, FlushKind::Due);
+        context.out.flush(context.rt, context.now, FlushKind::Due);
         if is_doubted {
-            fresh(round, self.alloc, seat, self.number, AHEAD)
+            fresh(context, self.alloc, seat, self.number, AHEAD)
         } else {
-            pick(round, self.alloc, seat, self.number)
+            pick(context, self.alloc, seat, self.number)
         }
     }
 
@@ -417,22 +417,22 @@ impl Worker {
     /// A link to a server, and a session that begins on it at the turn's moment.
     fn meet<A: Tally, S: Tally, H: Hub, R: Wait>(
         &mut self,
-        round: &Round<'_, A, S, R>,
+        context: &TurnContext<'_, A, S, R>,
         hub: &mut H,
         server: u16,
-    ) -> Result<FreeLine<H::Line>, Unmet>
-        ensures begun { IfOk result (λ free. free.line.session
+    ) -> Result<IdleUpstream<H::Line>, NoSession>
+        ensures begun { IfOk result (λ free. free.upstream.session
             ≡ session_begins (setup_by (arc_value self.old.login) (hex_drawn 0 4 self.old.rng)
-            self.old.acks round.entry.now.now server)) }
-        ensures on { IfOk result (λ free. free.line.ending ≡ None) }
+            self.old.acks context.entry.now.now server)) }
+        ensures on { IfOk result (λ free. free.upstream.ending ≡ None) }
     {
-        let link = match hub.connect(round.rt, server) {
+        let link = match hub.connect(context.rt, server) {
             Ok(link) => link,
-            Err(fault) => return Err(Unmet::of(fault)),
+            Err(fault) => return Err(NoSession::of(fault)),
         };
-        match self.up(server, round.now) {
-            Ok(session) => Ok(free_line(link, session)),
-            Err(_) => Err(Unmet::Memory),
+        match self.up(server, context.now) {
+            Ok(session) => Ok(free_upstream(link, session)),
+            Err(_) => Err(NoSession::Memory),
         }
     }
 
@@ -465,25 +465,25 @@ impl Worker {
         }
     }
 
-    /// A line without a chunk stands, unless it is to end.
+    /// An upstream without a chunk is kept, unless it is to end.
     fn stand<A: Tally, S: Tally, L: Link, R: Wait>(
         &mut self,
-        round: &Round<'_, A, S, R>,
+        context: &TurnContext<'_, A, S, R>,
         seat: &mut S::Seat,
-        free: FreeLine<L>,
-    ) -> Stage<L>
+        free: IdleUpstream<L>,
+    ) -> WorkerState<L>
         ensures same { seat.new ≡ seat.old }
-        ensures stands { free.line.ending ≡ None → (result ≡ Stage.Standing free)
-            × (free.line.session.down ≡ false) × (self.new.news ≡ self.old.news) }
-        ensures ends { IfSome free.line.ending (λ why. (result ≡ Stage.Idle)
-            × (self.new.news ≡ news_of why free.line.session.setup.server 0)) }
+        ensures stands { free.upstream.ending ≡ None → (result ≡ WorkerState.Standing free)
+            × (free.upstream.session.down ≡ false) × (self.new.news ≡ self.old.news) }
+        ensures ends { IfSome free.upstream.ending (λ why. (result ≡ WorkerState.Idle)
+            × (self.new.news ≡ news_of why free.upstream.session.setup.server 0)) }
     {
-        match free.line.ending {
-            None => Stage::Standing(free),
+        match free.upstream.ending {
+            None => WorkerState::Standing(free),
             Some(ending) => {
-                self.news = ending.news(free.line.session.server(), 0);
-                end_free(round, seat, free, None);
-                Stage::Idle
+                self.news = ending.news(free.upstream.session.server(), 0);
+                end_free(context, seat, free, None);
+                WorkerState::Idle
             }
         }
     }
@@ -494,34 +494,36 @@ impl Worker {
     /// worker seeks on.
     fn take_first<A: Tally, S: Tally, L: Link, R: Wait>(
         &mut self,
-        round: &Round<'_, A, S, R>,
+        context: &TurnContext<'_, A, S, R>,
         seat: &mut S::Seat,
-        free: FreeLine<L>,
-    ) -> Stage<L>
+        free: IdleUpstream<L>,
+    ) -> WorkerState<L>
         ensures same { seat.new ≡ seat.old }
-        ensures taken { free.line.ending ≡ None → HasTakenFirst result self.new.news
-            free.line.session round.entry.now.now (L.calls free.line.link) }
+        ensures taken { free.upstream.ending ≡ None → HasTakenFirst result self.new.news
+            free.upstream.session context.entry.now.now (L.calls free.upstream.link) }
     {
-        if round.out.counts(round.rt).held == 0 {
-            return Stage::Standing(free);
+        if context.out.counts(context.rt).held == 0 {
+            return WorkerState::Standing(free);
         }
-        let free = serve_free(round.rt, self.alloc, &mut self.room, free, round.now);
-        if let Some(ending) = free.line.ending {
-            self.news = ending.news(free.line.session.server(), 0);
-            end_free(round, seat, free, None);
-            return Stage::Seeking;
+        let free = serve_free(context.rt, self.alloc, &mut self.room, free, context.now);
+        if let Some(ending) = free.upstream.ending {
+            self.news = ending.news(free.upstream.session.server(), 0);
+            end_free(context, seat, free, None);
+            return WorkerState::Seeking;
         }
-        if !free.line.session.is_ready() {
-            return Stage::Sought(free);
+        if !free.upstream.session.is_ready() {
+            return WorkerState::Sought(free);
         }
-        round.out.claim(round.rt, round.now);
-        let is_doubted = round.out.is_doubted(round.rt, free.line.session.server());
-        match self.next_chunk(round, seat, is_doubted) {
+        context.out.claim(context.rt, context.now);
+        let is_doubted = context
+            .out
+            .is_doubted(context.rt, free.upstream.session.server());
+        match self.next_chunk(context, seat, is_doubted) {
             Some(picked) => {
-                round.out.release(round.rt);
-                Stage::Took(free, self.note(picked))
+                context.out.release(context.rt);
+                WorkerState::Took(free, self.note(picked))
             }
-            None => Stage::Sought(free),
+            None => WorkerState::Sought(free),
         }
     }
 
@@ -531,70 +533,79 @@ impl Worker {
     /// another worker claims is left to it.
     fn take_next<A: Tally, S: Tally, H: Hub, C: Clock, R: Wait>(
         &mut self,
-        round: &Round<'_, A, S, R>,
+        context: &TurnContext<'_, A, S, R>,
         seat: &mut S::Seat,
-        world: &mut World<'_, H, C>,
-        free: FreeLine<H::Line>,
-    ) -> Stage<H::Line>
+        outside: &mut Outside<'_, H, C>,
+        free: IdleUpstream<H::Line>,
+    ) -> WorkerState<H::Line>
         ensures same { seat.new ≡ seat.old }
-        ensures taken { free.line.ending ≡ None → HasTakenNext result self.new.news
-            free.line.session round.entry.now.now (H.Line.calls free.line.link)
+        ensures taken { free.upstream.ending ≡ None → HasTakenNext result self.new.news
+            free.upstream.session context.entry.now.now (H.Line.calls free.upstream.link)
             (setup_by (arc_value self.old.login) (hex_drawn 0 4 self.old.rng)
-            self.old.acks round.entry.now.now) }
+            self.old.acks context.entry.now.now) }
     {
-        let free = excuse(serve_free(round.rt, self.alloc, &mut self.room, free, round.now));
-        if free.line.ending.is_some() || !free.line.session.is_ready() {
-            return self.stand(round, seat, free);
+        let free = allow_close(serve_free(
+            context.rt,
+            self.alloc,
+            &mut self.room,
+            free,
+            context.now,
+        ));
+        if free.upstream.ending.is_some() || !free.upstream.session.is_ready() {
+            return self.stand(context, seat, free);
         }
-        let outlook = round.out.outlook(round.rt, self.number, round.now);
+        let outlook = context.out.outlook(context.rt, self.number, context.now);
         if outlook.is_claimed {
-            return Stage::Standing(free);
+            return WorkerState::Standing(free);
         }
-        let own = free.line.session.server();
-        let Some(picked) = self.next_chunk(round, seat, outlook.doubts(own)) else {
-            return Stage::Standing(free);
+        let own = free.upstream.session.server();
+        let Some(picked) = self.next_chunk(context, seat, outlook.doubts(own)) else {
+            return WorkerState::Standing(free);
         };
         let to = outlook.way_of(&picked, own);
         let chunk = self.note(picked);
-        let Some(other) = self.go_over(round, seat, world, to) else {
-            return Stage::Took(free, chunk);
+        let Some(other) = self.go_over(context, seat, outside, to) else {
+            return WorkerState::Took(free, chunk);
         };
-        if other.line.session.is_ready() {
-            end_free(round, seat, free, None);
-            return Stage::Took(other, chunk);
+        if other.upstream.session.is_ready() {
+            end_free(context, seat, free, None);
+            return WorkerState::Took(other, chunk);
         }
-        end_free(round, seat, free, Some(chunk));
-        Stage::Sought(other)
+        end_free(context, seat, free, Some(chunk));
+        WorkerState::Sought(other)
     }
 
     /// Loads the chunk that was taken, once the session is ready; until then the session is served.
     fn load<A: Tally, S: Tally, L: Link, R: Wait>(
         &mut self,
-        round: &Round<'_, A, S, R>,
+        context: &TurnContext<'_, A, S, R>,
         seat: &mut S::Seat,
-        free: FreeLine<L>,
+        free: IdleUpstream<L>,
         chunk: Carried,
-    ) -> Stage<L>
+    ) -> WorkerState<L>
         ensures same { seat.new ≡ seat.old }
-        ensures loaded { free.line.ending ≡ None
-            → HasLoaded result free.line.session chunk round.entry.now.now }
+        ensures loaded { free.upstream.ending ≡ None
+            → HasLoaded result free.upstream.session chunk context.entry.now.now }
         ensures gone { HasGone result self.old.last self.new.last self.new.news }
     {
-        if free.line.ending.is_some() || !free.line.session.is_ready() {
-            let free = serve_free(round.rt, self.alloc, &mut self.room, free, round.now);
-            return self.wait_for(round, seat, free, chunk);
+        if free.upstream.ending.is_some() || !free.upstream.session.is_ready() {
+            let free = serve_free(context.rt, self.alloc, &mut self.room, free, context.now);
+            return self.wait_for(context, seat, free, chunk);
         }
-        let FreeLine { mut line } = free;
-        let suspect = self.suspect(round, line.session.server(), &chunk);
-        match line.session.load(self.alloc, chunk, round.now) {
+        let IdleUpstream { mut upstream } = free;
+        let suspect = self.suspect(context, upstream.session.server(), &chunk);
+        match upstream.session.load(self.alloc, chunk, context.now) {
             Ok(()) => {
                 self.doubts.load(suspect);
-                self.go_to(line.session.server());
-                Stage::Loaded(line)
+                self.go_to(upstream.session.server());
+                WorkerState::Loaded(upstream)
             }
             Err(LoadFailed { chunk, error: _ }) => {
-                let free = to_end(FreeLine { line }, Ending::Lost(Loss::Memory));
-                self.wait_for(round, seat, free, chunk)
+                let free = to_end(
+                    IdleUpstream { upstream },
+                    EndReason::Lost(LossReason::Memory),
+                );
+                self.wait_for(context, seat, free, chunk)
             }
         }
     }
@@ -603,12 +614,12 @@ impl Worker {
     /// known to work.
     fn suspect<A: Tally, S: Tally, R: Wait>(
         &self,
-        round: &Round<'_, A, S, R>,
+        context: &TurnContext<'_, A, S, R>,
         server: u16,
         chunk: &Carried,
     ) -> Option<Suspect> {
         let losses = self.doubts.losses;
-        if losses < SUSPECT || round.out.is_doubted(round.rt, server) {
+        if losses < SUSPECT || context.out.is_doubted(context.rt, server) {
             return None;
         }
         Some(Suspect::of(chunk, losses))
@@ -617,25 +628,25 @@ impl Worker {
     /// Loads the chunk that was taken, beside those that the session has.
     fn load_more<A: Tally, S: Tally, L: Link, R: Wait>(
         &mut self,
-        round: &Round<'_, A, S, R>,
+        context: &TurnContext<'_, A, S, R>,
         seat: &mut S::Seat,
-        roomy: RoomyLine<L>,
+        roomy: UpstreamWithRoom<L>,
         chunk: Carried,
-    ) -> Stage<L>
+    ) -> WorkerState<L>
         ensures same { seat.new ≡ seat.old }
-        ensures loaded { HasLoadedMore result self.new.news roomy.line.session chunk
-            round.entry.now.now }
+        ensures loaded { HasLoadedMore result self.new.news roomy.upstream.session chunk
+            context.entry.now.now }
         ensures gone { HasGone result self.old.last self.new.last self.new.news }
     {
-        let RoomyLine { mut line } = roomy;
-        match line.session.load(self.alloc, chunk, round.now) {
+        let UpstreamWithRoom { mut upstream } = roomy;
+        match upstream.session.load(self.alloc, chunk, context.now) {
             Ok(()) => {
-                self.go_to(line.session.server());
-                Stage::Loaded(line)
+                self.go_to(upstream.session.server());
+                WorkerState::Loaded(upstream)
             }
             Err(LoadFailed { chunk, error: _ }) => {
-                let why = Ending::Lost(Loss::Memory);
-                self.lose(round, seat, ended(line, why), why, Some(chunk))
+                let why = EndReason::Lost(LossReason::Memory);
+                self.lose(context, seat, ended(upstream, why), why, Some(chunk))
             }
         }
     }
@@ -646,7 +657,7 @@ impl Worker {
         ensures kept { self.new.last ≡ Some server }
     {
         self.news = match self.last {
-            Some(last) if last != server => Some(News::Went { server }),
+            Some(last) if last != server => Some(WorkerEvent::Went { server }),
             _ => None,
         };
         self.last = Some(server);
@@ -655,24 +666,24 @@ impl Worker {
     /// A chunk waits for its session, unless that is to end; then the chunk goes back.
     fn wait_for<A: Tally, S: Tally, L: Link, R: Wait>(
         &mut self,
-        round: &Round<'_, A, S, R>,
+        context: &TurnContext<'_, A, S, R>,
         seat: &mut S::Seat,
-        free: FreeLine<L>,
+        free: IdleUpstream<L>,
         chunk: Carried,
-    ) -> Stage<L>
+    ) -> WorkerState<L>
         ensures same { seat.new ≡ seat.old }
-        ensures waits { free.line.ending ≡ None → (result ≡ Stage.Took free chunk)
+        ensures waits { free.upstream.ending ≡ None → (result ≡ WorkerState.Took free chunk)
             × (self.new.news ≡ self.old.news) }
         ensures last { self.new.last ≡ self.old.last }
-        ensures ends { IfSome free.line.ending (λ why. (result ≡ Stage.Idle)
-            × (self.new.news ≡ news_of why free.line.session.setup.server 0)) }
+        ensures ends { IfSome free.upstream.ending (λ why. (result ≡ WorkerState.Idle)
+            × (self.new.news ≡ news_of why free.upstream.session.setup.server 0)) }
     {
-        match free.line.ending {
-            None => Stage::Took(free, chunk),
+        match free.upstream.ending {
+            None => WorkerState::Took(free, chunk),
             Some(ending) => {
-                self.news = ending.news(free.line.session.server(), 0);
-                end_free(round, seat, free, Some(chunk));
-                Stage::Idle
+                self.news = ending.news(free.upstream.session.server(), 0);
+                end_free(context, seat, free, Some(chunk));
+                WorkerState::Idle
             }
         }
     }
@@ -682,34 +693,40 @@ impl Worker {
     /// are lost, and the worker seeks a server while they wait.
     fn settle<A: Tally, S: Tally, L: Link, R: Wait>(
         &mut self,
-        round: &Round<'_, A, S, R>,
+        context: &TurnContext<'_, A, S, R>,
         seat: &mut S::Seat,
-        line: Line<L>,
-    ) -> Stage<L>
-        ensures same { line.session.accepted ≡ [] → seat.new ≡ seat.old }
-        ensures settled { HasSettled result line.session }
-        ensures lost { line.ending ≡ None → HasLost result self.new.news line.session
-            round.entry.now.now (L.calls line.link) }
+        upstream: Upstream<L>,
+    ) -> WorkerState<L>
+        ensures same { upstream.session.accepted ≡ [] → seat.new ≡ seat.old }
+        ensures settled { HasSettled result upstream.session }
+        ensures lost { upstream.ending ≡ None → HasLost result self.new.news upstream.session
+            context.entry.now.now (L.calls upstream.link) }
         ensures count { S.count seat.old ≤ S.count seat.new }
         ensures most { S.count seat.new
-            ≤ S.count seat.old + S.kept (next_entries (live_acked line.session)) }
+            ≤ S.count seat.old + S.kept (next_entries (live_acked upstream.session)) }
         ensures parts { S.parts seat.new ≡ S.parts seat.old }
     {
-        let mut line = line;
-        if line.session.is_acked() {
+        let mut upstream = upstream;
+        if upstream.session.is_acked() {
             self.doubts.settle();
-            self.news = settle_line(round, seat, &mut line);
-            return Stage::Settled(line);
+            self.news = settle_upstream(context, seat, &mut upstream);
+            return WorkerState::Settled(upstream);
         }
-        let adds = line.may_add();
-        let line = serve(round.rt, self.alloc, &mut self.room, line, round.now);
-        if line.session.is_acked() {
-            return Stage::Loaded(line);
+        let adds = upstream.may_add();
+        let upstream = serve(
+            context.rt,
+            self.alloc,
+            &mut self.room,
+            upstream,
+            context.now,
+        );
+        if upstream.session.is_acked() {
+            return WorkerState::Loaded(upstream);
         }
-        match line.ending {
-            Some(ending) => self.lose(round, seat, line, ending, None),
-            None if adds => self.add(round, seat, line),
-            None => Stage::Loaded(line),
+        match upstream.ending {
+            Some(ending) => self.lose(context, seat, upstream, ending, None),
+            None if adds => self.add(context, seat, upstream),
+            None => WorkerState::Loaded(upstream),
         }
     }
 
@@ -717,25 +734,25 @@ impl Worker {
     /// have been taken for it goes back. The worker seeks a server while they wait.
     fn lose<A: Tally, S: Tally, L: Link, R: Wait>(
         &mut self,
-        round: &Round<'_, A, S, R>,
+        context: &TurnContext<'_, A, S, R>,
         seat: &mut S::Seat,
-        line: Line<L>,
-        why: Ending,
+        upstream: Upstream<L>,
+        why: EndReason,
         taken: Option<Carried>,
-    ) -> Stage<L>
-        requires { line.session.accepted ≡ [] }
+    ) -> WorkerState<L>
+        requires { upstream.session.accepted ≡ [] }
         ensures same { seat.new ≡ seat.old }
         ensures told { self.new.news
-            ≡ news_of why line.session.setup.server (length line.session.carried) }
+            ≡ news_of why upstream.session.setup.server (length upstream.session.carried) }
         ensures last { self.new.last ≡ self.old.last }
-        ensures seeks { result ≡ Stage.Seeking }
+        ensures seeks { result ≡ WorkerState.Seeking }
     {
-        let server = line.session.server();
-        let chunks = lose_line(round, seat, line, taken);
+        let server = upstream.session.server();
+        let chunks = lose_upstream(context, seat, upstream, taken);
         let told = why.news(server, chunks);
         self.news = told;
         self.doubts.lose(server, why);
-        Stage::Seeking
+        WorkerState::Seeking
     }
 
     /// Takes a chunk for a session that has others, where one more may be added, and the server is
@@ -744,30 +761,30 @@ impl Worker {
     /// other. What another worker claims is left to it.
     fn add<A: Tally, S: Tally, L: Link, R: Wait>(
         &mut self,
-        round: &Round<'_, A, S, R>,
+        context: &TurnContext<'_, A, S, R>,
         seat: &mut S::Seat,
-        line: Line<L>,
-    ) -> Stage<L>
-        requires settled { line.session.accepted ≡ [] }
-        requires on { line.ending ≡ None }
+        upstream: Upstream<L>,
+    ) -> WorkerState<L>
+        requires settled { upstream.session.accepted ≡ [] }
+        requires on { upstream.ending ≡ None }
         ensures same { seat.new ≡ seat.old }
-        ensures added { HasAdded result line.session }
+        ensures added { HasAdded result upstream.session }
     {
-        if self.doubts.alone || !line.may_add() {
-            return Stage::Loaded(line);
+        if self.doubts.alone || !upstream.may_add() {
+            return WorkerState::Loaded(upstream);
         }
-        let outlook = round.out.outlook(round.rt, self.number, round.now);
-        if outlook.is_claimed || !outlook.trusts(line.session.server()) {
-            return Stage::Loaded(line);
+        let outlook = context.out.outlook(context.rt, self.number, context.now);
+        if outlook.is_claimed || !outlook.trusts(upstream.session.server()) {
+            return WorkerState::Loaded(upstream);
         }
-        match self.next_chunk(round, seat, false) {
-            None => Stage::Loaded(line),
+        match self.next_chunk(context, seat, false) {
+            None => WorkerState::Loaded(upstream),
             Some(picked) if picked.was_lost() => {
-                give_back(round, seat, unused(self.alloc, picked));
+                give_back(context, seat, unused(self.alloc, picked));
                 self.doubts.alone = true;
-                Stage::Loaded(line)
+                WorkerState::Loaded(upstream)
             }
-            Some(picked) => Stage::Added(RoomyLine { line }, self.note(picked)),
+            Some(picked) => WorkerState::Added(UpstreamWithRoom { upstream }, self.note(picked)),
         }
     }
 
@@ -775,26 +792,26 @@ impl Worker {
     /// the session stands, where it takes another one.
     fn go_on<A: Tally, S: Tally, L: Link, R: Wait>(
         &mut self,
-        round: &Round<'_, A, S, R>,
+        context: &TurnContext<'_, A, S, R>,
         seat: &mut S::Seat,
-        line: Line<L>,
-    ) -> Stage<L>
+        upstream: Upstream<L>,
+    ) -> WorkerState<L>
         ensures same { seat.new ≡ seat.old }
-        ensures goes { HasGoneOn result self.new.news line.session line.ending }
+        ensures goes { HasGoneOn result self.new.news upstream.session upstream.ending }
     {
-        if line.session.is_acked() {
-            return Stage::Loaded(line);
+        if upstream.session.is_acked() {
+            return WorkerState::Loaded(upstream);
         }
-        if line.session.has_chunk() {
-            return match line.ending {
-                Some(ending) => self.lose(round, seat, line, ending, None),
-                None => Stage::Loaded(line),
+        if upstream.session.has_chunk() {
+            return match upstream.ending {
+                Some(ending) => self.lose(context, seat, upstream, ending, None),
+                None => WorkerState::Loaded(upstream),
             };
         }
-        let free = FreeLine { line };
-        if free.line.ending.is_some() || free.line.session.is_ready() {
-            return self.stand(round, seat, free);
+        let free = IdleUpstream { upstream };
+        if free.upstream.ending.is_some() || free.upstream.session.is_ready() {
+            return self.stand(context, seat, free);
         }
-        self.stand(round, seat, to_end(free, Ending::Spent))
+        self.stand(context, seat, to_end(free, EndReason::Spent))
     }
 }

@@ -2,10 +2,10 @@
 //! memory is refused to a call the line `NAME: memory` says so, and it is made again. Meanwhile
 //! nothing has changed, as far as the value's own calls tell; else a line says that too.
 //!
-//! `tests/memory/test_refused.py` has memory refused to each in turn. What is no call of the list is
-//! made again where it is refused memory, and nothing is said of it. The function that makes a call
-//! tells its answer too, so that what the call gives is dropped in one place and not on each way
-//! out.
+//! `tests/memory/test_refused.py` has memory refused to each in turn. What is no call of the list
+//! is made again where it is refused memory, and nothing is said of it. The function that makes a
+//! call tells its answer too, so that what the call gives is dropped in one place and not on each
+//! way out.
 
 use crate::digits::Hex;
 use crate::growing_chunks;

@@ -2,6 +2,7 @@
 
 use crate::server::Server;
 use anyhow::Result;
+use fwd_loop::Runtime;
 use fwd_program::{Log, run_all};
 use std::alloc::Global;
 use std::io::{ErrorKind, Write};
@@ -125,16 +126,7 @@ impl Call {
     }
 
     /// Calls the whole program, and says its exit status, what it wrote, and what it told.
-    fn say<
-        R: Net<Listener = TcpListener, Stream = TcpStream>
-            + Threads
-            + Wait
-            + Clock
-            + Files
-            + Print
-            + AllocGlobal
-            + Sync,
-    >(self, rt: &R) -> Result<()> {
+    fn say<R: Runtime + Files + Print>(self, rt: &R) -> Result<()> {
         let alloc = rt.alloc();
         let mut output = Pipe::new(alloc, self.manner);
         let mut errors = Vec::new(alloc);
@@ -163,16 +155,7 @@ fn write_good<R: Net<Listener = TcpListener, Stream = TcpStream> + Files + Alloc
 }
 
 /// Writes the good settings, and makes the calls.
-fn try_ends<
-    R: Net<Listener = TcpListener, Stream = TcpStream>
-        + Threads
-        + Wait
-        + Clock
-        + Files
-        + Print
-        + AllocGlobal
-        + Sync,
->(rt: &R) -> Result<()> {
+fn try_ends<R: Runtime + Files + Print>(rt: &R) -> Result<()> {
     write_good(rt)?;
     for call in &CALLS {
         call.say(rt)?;

@@ -3,9 +3,9 @@
 use crate::site::Site;
 use crate::told::Told;
 use anyhow::Result;
-use fwd_loop::{Caller, Fact, SourceEnd, Watch};
+use fwd_loop::{CloseReason, JournalEvent, ListenerKind, Observer};
 use fwd_session::SessionFault;
-use fwd_workers::{LinkFault, Loss};
+use fwd_workers::{LinkFault, LossReason};
 use std::alloc::Global;
 use std::net::SocketAddr;
 
@@ -15,9 +15,9 @@ pub struct Heard {
     sources_at: Option<SocketAddr>,
     monitors_at: Option<SocketAddr>,
     /// Who was one too many last.
-    over_limit: Option<Caller>,
+    over_limit: Option<ListenerKind>,
     /// Why it closed its sources, in its order. One for which memory is refused is left out.
-    closings: Vec<SourceEnd>,
+    closings: Vec<CloseReason>,
     /// How often a server was lost.
     lost: u32,
     /// The first one, and its output.
@@ -75,12 +75,14 @@ impl Heard {
     }
 
     /// A server of an output is lost.
-    fn lose(&mut self, output: u16, server: SocketAddr, why: Loss) {
+    fn lose(&mut self, output: u16, server: SocketAddr, why: LossReason) {
         self.lost = self.lost.saturating_add(1);
         self.first_lost = self.first_lost.or(Some((output, server)));
         match why {
-            Loss::Link(LinkFault::Connect) => self.unreached = self.unreached.saturating_add(1),
-            Loss::Fault(fault) => {
+            LossReason::Link(LinkFault::Connect) => self.unreached = self
+                .unreached
+                .saturating_add(1),
+            LossReason::Fault(fault) => {
                 let _ = self.faults.push(fault);
             }
             _ => {}
@@ -120,27 +122,27 @@ impl Heard {
     }
 }
 
-impl Watch for Heard {
-    fn see(&mut self, fact: Fact) {
-        match fact {
-            Fact::Listening { caller, address } => match caller {
-                Caller::Source => self.sources_at = Some(address),
-                Caller::Monitor => self.monitors_at = Some(address),
+impl Observer for Heard {
+    fn observe(&mut self, event: JournalEvent) {
+        match event {
+            JournalEvent::Listening { listener, address } => match listener {
+                ListenerKind::Source => self.sources_at = Some(address),
+                ListenerKind::Monitor => self.monitors_at = Some(address),
             },
-            Fact::OverLimit { caller, peer: _ } => self.over_limit = Some(caller),
-            Fact::SourceClosed { peer: _, why } => {
+            JournalEvent::OverLimit { listener, peer: _ } => self.over_limit = Some(listener),
+            JournalEvent::SourceClosed { peer: _, why } => {
                 let _ = self.closings.push(why);
             }
-            Fact::Unrouted { .. } => {
-                let _ = self.closings.push(SourceEnd::NoRoute);
+            JournalEvent::Unrouted { .. } => {
+                let _ = self.closings.push(CloseReason::NoRoute);
             }
-            Fact::ServerLost {
+            JournalEvent::ServerLost {
                 output,
                 server,
                 why,
             } => self.lose(output, server, why),
-            Fact::ServerBack { .. } => self.back = self.back.saturating_add(1),
-            Fact::ServerChanged { .. } => self.changed = self.changed.saturating_add(1),
+            JournalEvent::ServerBack { .. } => self.back = self.back.saturating_add(1),
+            JournalEvent::ServerChanged { .. } => self.changed = self.changed.saturating_add(1),
             _ => self.others = self.others.saturating_add(1),
         }
     }

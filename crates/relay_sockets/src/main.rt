@@ -1,5 +1,5 @@
 //! A relay over sockets, with sources, servers and a monitor around it, all on this machine, and
-//! what a run says of each fact, by a clock that is set by hand, how its lines are paced, which
+//! what a run says of each event, by a clock that is set by hand, how its lines are paced, which
 //! environments ask for them, how runs end, and turns that are made by hand. It prints what holds
 //! whatever the order of the threads' turns.
 #![tactic(auto)]

@@ -1,7 +1,7 @@
-//! Many facts of one subject in a second, others beside them, and facts that cannot be written.
+//! Many events of one subject in a second, others beside them, and events that cannot be written.
 
 use crate::hand::{Hand, START};
-use fwd_loop::{Fact, Want, Watch};
+use fwd_loop::{JournalEvent, MemoryFor, Observer};
 use fwd_program::Journal;
 use std::alloc::{AllocError, Global};
 use std::io;
@@ -10,13 +10,13 @@ use std::sync::Arc;
 use std::sync::atomic::{AtomicBool, Ordering};
 
 /// So many monitors want memory.
-fn see_monitors<W: Watch>(journal: &mut W, count: u16) {
+fn see_monitors<W: Observer>(journal: &mut W, count: u16) {
     for _ in 0..count {
-        journal.see(Fact::Memory(Want::Monitor));
+        journal.observe(JournalEvent::Memory(MemoryFor::Monitor));
     }
 }
 
-/// Says ten facts of thirteen, those of other subjects too, and then how many were left out of
+/// Says ten events of thirteen, those of other subjects too, and then how many were left out of
 /// what.
 pub fn say_many(rt: &impl Print) {
     let clock = Hand::new(None);
@@ -27,8 +27,8 @@ pub fn say_many(rt: &impl Print) {
     clock.set(Some(START));
     see_monitors(&mut journal, 13);
     // Two outputs are subjects of their own.
-    journal.see(Fact::Memory(Want::Output(0)));
-    journal.see(Fact::Memory(Want::Output(1)));
+    journal.observe(JournalEvent::Memory(MemoryFor::Output(0)));
+    journal.observe(JournalEvent::Memory(MemoryFor::Output(1)));
     // The same second is not over.
     clock.set(Some(START + 876));
     journal.turned();

@@ -2,13 +2,12 @@
 
 use crate::heard::Heard;
 use fwd_chunks::Report;
-use fwd_loop::{Beside, Loop, Opened, StartFault, Started, Turns, close_all};
+use fwd_loop::{Beside, Loop, Opened, Runtime, StartFault, Started, Turns, close_all};
 use std::net::{Net, TcpListener, TcpStream};
 use std::rt::Clock;
 use std::sync::Wait;
 use std::sync::atomic::{AtomicBool, Ordering};
 use std::thread;
-use std::thread::Threads;
 
 /// Who makes the turns of a relay.
 pub trait Turner {
@@ -58,15 +57,7 @@ impl Turner for Until<'_> {
 }
 
 /// Makes turns with the other readers and the workers at work meanwhile, which end then, too.
-fn serve<
-    R: Net<Listener = TcpListener, Stream = TcpStream>
-        + Threads
-        + Wait
-        + Clock
-        + AllocGlobal
-        + Sync,
-    T: Turner,
->(
+fn serve<R: Runtime, T: Turner>(
     rt: &R,
     turns: &mut Turns<'_, R>,
     beside: Beside<'_, '_, R>,
@@ -84,15 +75,11 @@ fn serve<
 
 /// Opens a relay, makes its turns, and answers what its outputs have to do with then. All its
 /// threads have ended by that.
-pub fn run<
-    R: Net<Listener = TcpListener, Stream = TcpStream>
-        + Threads
-        + Wait
-        + Clock
-        + AllocGlobal
-        + Sync,
-    T: Turner,
->(rt: &R, relay: Loop, turner: &mut T) -> Result<Vec<Report>, StartFault> {
+pub fn run<R: Runtime, T: Turner>(
+    rt: &R,
+    relay: Loop,
+    turner: &mut T,
+) -> Result<Vec<Report>, StartFault> {
     let mut relay = relay;
     match relay.open(rt) {
         Ok(

@@ -10,7 +10,7 @@ use crate::step::Step;
 use crate::traffic::{play_alone, play_deaths};
 use anyhow::{Result, anyhow, bail};
 use fwd_chunks::Report;
-use fwd_loop::{Loop, StartFault};
+use fwd_loop::{Loop, Runtime, StartFault};
 use std::net::{Net, TcpListener, TcpStream};
 use std::rt::Clock;
 use std::sync::Wait;
@@ -102,14 +102,12 @@ impl Scene {
     }
 
     /// Runs its relay: what its outputs have to do with then.
-    fn turn<
-        R: Net<Listener = TcpListener, Stream = TcpStream>
-            + Threads
-            + Wait
-            + Clock
-            + AllocGlobal
-            + Sync,
-    >(self, rt: &R, relay: Loop, until: &mut Until<'_>) -> Result<Vec<Report>, StartFault> {
+    fn turn<R: Runtime>(
+        self,
+        rt: &R,
+        relay: Loop,
+        until: &mut Until<'_>,
+    ) -> Result<Vec<Report>, StartFault> {
         match self.turns {
             Some(turns) => relay.run_watched(rt, &mut until.heard, turns),
             None => run(rt, relay, until),
@@ -130,14 +128,12 @@ impl Scene {
 
     /// Runs its relay, and plays what happens around it meanwhile. The relay ends with the play,
     /// whatever that came to.
-    fn run<
-        R: Net<Listener = TcpListener, Stream = TcpStream>
-            + Threads
-            + Wait
-            + Clock
-            + AllocGlobal
-            + Sync,
-    >(self, rt: &R, stage: &mut Stage, until: &mut Until<'_>) -> Result<Vec<Report>> {
+    fn run<R: Runtime>(
+        self,
+        rt: &R,
+        stage: &mut Stage,
+        until: &mut Until<'_>,
+    ) -> Result<Vec<Report>> {
         let relay = stage
             .site
             .relay(&Sealed::new(rt), self.sources, self.keys, self.outputs)?;
@@ -159,14 +155,7 @@ impl Scene {
     }
 
     /// The same, and appends what it came to.
-    fn put_run<
-        R: Net<Listener = TcpListener, Stream = TcpStream>
-            + Threads
-            + Wait
-            + Clock
-            + AllocGlobal
-            + Sync,
-    >(self, rt: &R, stage: &mut Stage) -> Result<()> {
+    fn put_run<R: Runtime>(self, rt: &R, stage: &mut Stage) -> Result<()> {
         let is_over = AtomicBool::new(false);
         let mut until = Until {
             heard: Heard::new(rt.alloc()),
@@ -182,14 +171,7 @@ impl Scene {
 
     /// What is printed of it, with so many readers. What failed is printed too, so that one scene
     /// does not hide another.
-    fn text<
-        R: Net<Listener = TcpListener, Stream = TcpStream>
-            + Threads
-            + Wait
-            + Clock
-            + AllocGlobal
-            + Sync,
-    >(self, rt: &R, readers: u16) -> Result<String> {
+    fn text<R: Runtime>(self, rt: &R, readers: u16) -> Result<String> {
         let mut stage = Stage::new(rt, rt.alloc(), self.host)?;
         stage.site.readers = if self.is_of_one { 1 } else { readers };
         stage.told.begin(self.title);
@@ -200,14 +182,7 @@ impl Scene {
 }
 
 /// What is printed of the scene at a place among these, with so many readers.
-fn text_at<
-    R: Net<Listener = TcpListener, Stream = TcpStream>
-        + Threads
-        + Wait
-        + Clock
-        + AllocGlobal
-        + Sync,
->(rt: &R, scenes: &[Scene], place: usize, readers: u16) -> Result<String> {
+fn text_at<R: Runtime>(rt: &R, scenes: &[Scene], place: usize, readers: u16) -> Result<String> {
     match scenes.get(place) {
         Some(scene) => scene.text(rt, readers),
         None => Err(anyhow!("no such scene")),

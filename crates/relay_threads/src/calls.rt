@@ -1,7 +1,7 @@
 //! An output's calls, whether it lies behind a lock or not.
 
 ghost use Rattle.std.specs.Arc.{arc_value};
-ghost use Rattle.fwd_session.specs.Evidence.{IsEvidence};
+ghost use Rattle.fwd_session.specs.ServerAcks.{IsServerAck};
 
 use fwd_book::Receipt;
 use fwd_chunks::Carried;
@@ -39,7 +39,7 @@ pub trait Output {
     fn take(&mut self, alloc: Global, worker: u16, now: u64) -> Option<Carried>;
 
     fn settle(&mut self, acked: Arc<Acked>, carried: Carried) -> u64
-        requires { IsEvidence (arc_value acked) carried };
+        requires { IsServerAck (arc_value acked) carried };
 
     fn end(&mut self, taken: Option<Carried>, loaded: Vec<Carried>, server: Option<u16>, now: u64);
 }

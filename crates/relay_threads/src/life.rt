@@ -9,7 +9,7 @@ use crate::turns::{abandon_all, admits};
 use crate::watched::{Interrupt, Ticking, Watched};
 use anyhow::Result;
 use fwd_core::FlushKind;
-use fwd_workers::{Ended, Locked, Plain, SharedOutput, Worker};
+use fwd_workers::{Locked, Plain, SharedOutput, Worker, WorkerEnd};
 use rand_chacha::ChaCha20Rng;
 use rand_core::SeedableRng;
 use std::alloc::Global;
@@ -107,7 +107,7 @@ struct Telling {
 
 impl Telling {
     /// The run of the worker.
-    fn run<R: Wait>(&self, rt: &R) -> Result<Ended> {
+    fn run<R: Wait>(&self, rt: &R) -> Result<WorkerEnd> {
         let Life {
             worker,
             ack_wait,
@@ -130,10 +130,10 @@ impl Telling {
     }
 
     /// How the run ended, and what the output counts then.
-    fn note_end<R: Wait>(&self, rt: &R, ended: Ended) {
+    fn note_end<R: Wait>(&self, rt: &R, ended: WorkerEnd) {
         let how = match ended {
-            Ended::Stopped => "stopped",
-            Ended::TurnsSpent => "turns spent",
+            WorkerEnd::Stopped => "stopped",
+            WorkerEnd::TurnsSpent => "turns spent",
         };
         let counts = self.out.counts(rt);
         let (accepted, settled, held) = (counts.accepted, counts.settled, counts.held);

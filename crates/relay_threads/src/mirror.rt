@@ -3,7 +3,7 @@
 
 ghost use Rattle.std.specs.Prelude.{◌≡◌, IfSome, IfOk, None};
 ghost use Rattle.std.specs.Arc.{arc_value};
-ghost use Rattle.fwd_session.specs.Evidence.{IsEvidence};
+ghost use Rattle.fwd_session.specs.ServerAcks.{IsServerAck};
 
 use crate::batches::{
     LONGER, MESSAGE, OTHER, THREE, batch, drop_chunk, drop_session, left_as, login, output,
@@ -60,7 +60,7 @@ struct Play<'a, O: Output> {
 
 /// The reply to a chunk, and the chunk.
 fn acknowledged(alloc: Global, chunk: Carried) -> Option<(Arc<Acked>, Carried)>
-    ensures { IfSome result (λ pair. IsEvidence (arc_value pair.0) pair.1) }
+    ensures { IfSome result (λ pair. IsServerAck (arc_value pair.0) pair.1) }
 {
     let Ok(login) = login(alloc) else {
         drop_chunk(alloc, chunk);

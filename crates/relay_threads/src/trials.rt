@@ -11,8 +11,8 @@ use crate::watched::{Ticking, news_text, place_name};
 use anyhow::Result;
 use fwd_core::FlushKind;
 use fwd_workers::{
-    Closing, Ended, Gate, Ledgered, LinkFault, Locked, Loss, News, Pass, Place, SharedOutput,
-    Tally, Worker, open,
+    Closing, Gate, Ledgered, LinkFault, Locked, LossReason, Pass, Place, SharedOutput, Tally,
+    Worker, WorkerEnd, WorkerEvent, open,
 };
 use rand_chacha::ChaCha20Rng;
 use rand_core::SeedableRng;
@@ -106,12 +106,12 @@ impl Gate for Teller {
         Pass::Go
     }
 
-    fn hear<R: Wait>(&mut self, rt: &R, worker: u16, news: News) {
+    fn hear<R: Wait>(&mut self, rt: &R, worker: u16, news: WorkerEvent) {
         match news {
-            News::Settled { .. } => self.owed = self.owed.saturating_sub(1),
-            News::Went { .. } => return,
-            News::Lost { why, .. } => {
-                if let Loss::Link(LinkFault::Connect) = why {
+            WorkerEvent::Settled { .. } => self.owed = self.owed.saturating_sub(1),
+            WorkerEvent::Went { .. } => return,
+            WorkerEvent::Lost { why, .. } => {
+                if let LossReason::Link(LinkFault::Connect) = why {
                     return;
                 }
             }
@@ -153,7 +153,7 @@ impl Trial {
         let rng = ChaCha20Rng::from_seed([0; 32]);
         let mut worker = Worker::new(alloc, 0, login, terms(self.window), rng);
         let (seat, ended) = worker.run(rt, out, seat, &mut hub, &mut gate, &mut clock, TURNS);
-        if ended == Ended::TurnsSpent {
+        if ended == WorkerEnd::TurnsSpent {
             witness.record.note(rt, ", turns spent");
         }
         seat

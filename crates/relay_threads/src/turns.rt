@@ -5,7 +5,7 @@ ghost use Rattle.std.specs.Prelude.{◌≡◌, ◌≤◌};
 use crate::batches::{MESSAGE, batch, login, terms};
 use crate::memory::{Open, Still, Wires};
 use fwd_core::Origin;
-use fwd_workers::{Ended, Gate, SharedOutput, Tally, Ticket, Worker};
+use fwd_workers::{Gate, SharedOutput, Tally, Ticket, Worker, WorkerEnd};
 use rand_chacha::ChaCha20Rng;
 use rand_core::SeedableRng;
 use std::alloc::Global;
@@ -89,7 +89,7 @@ pub fn works<A: Tally, S: Tally, G: Gate, R: Wait>(
     let mut worker = Worker::new(alloc, number, login, terms(window), rng);
     let mut hub = Wires(alloc);
     let (seat, ended) = worker.run(rt, out, seat, &mut hub, gate, &mut Still, 10_000);
-    (seat, ended == Ended::Stopped)
+    (seat, ended == WorkerEnd::Stopped)
 }
 
 /// How many of the tickets have receipts now, and how many are left, which are abandoned.

@@ -1,7 +1,7 @@
 //! A gate that notes what it is asked and told, and a clock that goes on at each look.
 
 use crate::record::Record;
-use fwd_workers::{Clock, Gate, LinkFault, Loss, News, Pass, Place, Refused};
+use fwd_workers::{Clock, Gate, LinkFault, LossReason, Pass, Place, Refused, WorkerEvent};
 use std::alloc::{AllocError, Global};
 use std::str;
 use std::sync::Wait;
@@ -67,30 +67,32 @@ fn fault_name(fault: LinkFault) -> &'static str {
 }
 
 /// What a loss is called.
-fn loss_text(alloc: Global, why: Loss) -> Result<String, AllocError> {
+fn loss_text(alloc: Global, why: LossReason) -> Result<String, AllocError> {
     match why {
-        Loss::Link(fault) => {
+        LossReason::Link(fault) => {
             let name = fault_name(fault);
             format!(in alloc; "{name}")
         }
-        Loss::Closed => format!(in alloc; "closed"),
-        Loss::Fault(fault) => format!(in alloc; "{fault:?}"),
-        Loss::Late => format!(in alloc; "late"),
-        Loss::Memory => format!(in alloc; "memory"),
+        LossReason::Closed => format!(in alloc; "closed"),
+        LossReason::Fault(fault) => format!(in alloc; "{fault:?}"),
+        LossReason::Late => format!(in alloc; "late"),
+        LossReason::Memory => format!(in alloc; "memory"),
     }
 }
 
 /// What a worker tells.
-pub fn news_text(alloc: Global, worker: u16, news: News) -> Result<String, AllocError> {
+pub fn news_text(alloc: Global, worker: u16, news: WorkerEvent) -> Result<String, AllocError> {
     match news {
-        News::Settled { number, server } => {
+        WorkerEvent::Settled { number, server } => {
             format!(in alloc; ", worker {worker} tells chunk {number} settled by server {server}")
         }
-        News::Lost { server, why, .. } => {
+        WorkerEvent::Lost { server, why, .. } => {
             let why = loss_text(alloc, why)?;
             format!(in alloc; ", worker {worker} tells server {server} lost: {why}")
         }
-        News::Went { server } => { format!(in alloc; ", worker {worker} goes to server {server}") }
+        WorkerEvent::Went { server } => {
+            format!(in alloc; ", worker {worker} goes to server {server}")
+        }
     }
 }
 
@@ -150,7 +152,7 @@ impl Gate for Watched {
         pass
     }
 
-    fn hear<R: Wait>(&mut self, rt: &R, worker: u16, news: News) {
+    fn hear<R: Wait>(&mut self, rt: &R, worker: u16, news: WorkerEvent) {
         let made = news_text(self.alloc, worker, news);
         self.record.note_made(rt, made);
     }

@@ -5,8 +5,8 @@ use Rattle.std.proofs.lemmas.List.{append-nil, length-append}
 use Rattle.std.proofs.lemmas.Option.{same_Some}
 use Rattle.fwd_msgpack.specs.Heads.{head_bytes}
 use Rattle.fwd_modes.specs.Frames.{chunk_frame}
-use Rattle.fwd_chunks.specs.History.{Load}
-use Rattle.fwd_session.specs.Evidence.{Accepted, frame_of}
+use Rattle.fwd_chunks.specs.History.{CarriedChunk}
+use Rattle.fwd_session.specs.ServerAcks.{Accepted, frame_of}
 use Rattle.fwd_session.specs.Said.{out_of}
 use Rattle.fwd_session.specs.History as session
 use Rattle.fwd_session.specs.History.{Loaded, SessionHistory, IsSane as IsSaneHistory, IsFramed, IsAcknowledged, is_ready, newly_accepted, says}
@@ -51,12 +51,12 @@ no_split : (between : List Event) (x : Event) (rest : List Event) → [] ≡ bet
 no_split [] x rest e = cc
 no_split (b ∷ between) x rest e = cc
 
-frame_some : (c : Load) → 0 < length (frame_of c)
+frame_some : (c : CarriedChunk) → 0 < length (frame_of c)
 unfolding chunk_frame head_bytes
 frame_some c = omega arith
 
 -- a frame that is appended now is not sent yet
-not_yet : (s : SessionHistory) (c : Load) → s.sent ≤ length s.appended
+not_yet : (s : SessionHistory) (c : CarriedChunk) → s.sent ≤ length s.appended
     → length (s.appended ++ frame_of c) ≤ s.sent → ⊥
 not_yet s c le through = omega (arith, length-append s.appended (frame_of c), frame_some c, le, through)
 
@@ -71,7 +71,7 @@ module _ (config : Config) (es : List Event) (o w : ℕ) where
     acked = tt;
   }
 
-  pub loads : (s : SessionHistory) (c : Load) (now : ℕ)
+  pub loads : (s : SessionHistory) (c : CarriedChunk) (now : ℕ)
       → SessionStory config es o w s → IsSaneHistory s → is_ready s ≡ true
       → session_of (reached config es) o w ≡ Some s
       → answered config es (event.Load o w now) ≡ answer.Frame (frame_of c)

@@ -6,8 +6,8 @@ use Rattle.fwd_chunks.proofs.Numbers.{has_number-push}
 use Rattle.fwd_model.specs.declared.config.Config.{Config}
 use Rattle.fwd_model.specs.declared.event.Event.{Event}
 use Rattle.fwd_modes.specs.Frames.{chunk_name}
-use Rattle.fwd_chunks.specs.History.{BufferHistory, Load}
-use Rattle.fwd_session.specs.Evidence.{Accepted, frame_of, evidence_of}
+use Rattle.fwd_chunks.specs.History.{BufferHistory, CarriedChunk}
+use Rattle.fwd_session.specs.ServerAcks.{Accepted, frame_of, evidence_of}
 use Rattle.fwd_session.specs.History as session
 use Rattle.fwd_session.specs.History.{SessionHistory, first_in}
 use Rattle.fwd_model.specs.Delivered.{WasAcknowledged}
@@ -28,7 +28,7 @@ pub acked_number_is : (config : Config) (es : List Event) (o w : ℕ) (b : Buffe
 acked_number_is config es o w b s a t is named e =
     let c = a.chunk in
     let frame : frame_of c ≡ frame_at config o b.cells c.number = ap frame_of (sym is.same) ∙ frame_is config o c.number b named in
-    let name : c.name ≡ chunk_name config.run o c.number = ap (λ (x : Load). x.name) (sym is.same) ∙ (λ i. chunk_name (named.0 i) (named.1 i) c.number) in
+    let name : c.name ≡ chunk_name config.run o c.number = ap (λ (x : CarriedChunk). x.name) (sym is.same) ∙ (λ i. chunk_name (named.0 i) (named.1 i) c.number) in
     (w, subst (λ n. WasAcknowledged config es o w (frame_at config o b.cells c.number) n) name (subst (λ f. WasAcknowledged config es o w f c.name) frame (all_first (AckedStory config es o w) s.accepted a t.acked e)))
 
 either : (a b : Bool) → (a || b) ≡ true → (a ≡ true) ⊎ (b ≡ true)

@@ -13,10 +13,10 @@ use Rattle.fwd_chunks.specs.declared.fault.AdmitError.{AdmitError}
 use Rattle.fwd_chunks.specs.declared.fault.AdmitError.TheVariants.{Full, NumbersSpent, Memory}
 use Rattle.fwd_chunks.specs.declared.flush.FlushKind.{FlushKind}
 use Rattle.fwd_chunks.specs.History as buffer
-use Rattle.fwd_chunks.specs.History.{Load}
+use Rattle.fwd_chunks.specs.History.{CarriedChunk}
 use Rattle.fwd_session.specs.declared.told.SessionHeard.{SessionHeard}
 use Rattle.fwd_session.specs.declared.told.SessionHeard.TheVariants as heard_as
-use Rattle.fwd_session.specs.Evidence.{frame_of, evidence_of}
+use Rattle.fwd_session.specs.ServerAcks.{frame_of, evidence_of}
 use Rattle.fwd_session.specs.Said.{out_of}
 use Rattle.fwd_session.specs.History as session
 use Rattle.fwd_session.specs.History.{SessionHistory, handshake_of, says, told_of}

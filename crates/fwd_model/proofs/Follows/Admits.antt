@@ -8,7 +8,7 @@ use Rattle.fwd_modes.specs.Requests.{Request}
 use Rattle.fwd_modes.specs.Frames.{chunk_name}
 use Rattle.fwd_modes.specs.declared.origin.Origin.{Origin}
 use Rattle.fwd_chunks.specs.Cells.{Carry, entries_of, first_tag, has_number, is_carried}
-use Rattle.fwd_chunks.specs.History.{BufferHistory, load_of, enters, spans_of}
+use Rattle.fwd_chunks.specs.History.{BufferHistory, carried_chunk_of, enters, spans_of}
 use Rattle.fwd_chunks.proofs.Follows as buffer
 use Rattle.fwd_chunks.proofs.Sane as sane
 use Rattle.fwd_chunks.proofs.News.{enters-acknowledged, enters-carried, enters-setting, carried-stays, spans-unacked}
@@ -28,7 +28,7 @@ use Rattle.fwd_model.proofs.Reached.{IsSaneLane, IsSaneWorker}
 -- ---- what a worker has stays
 
 load-stays : (h : BufferHistory) (origin : Origin) (r : Request) (now k : ℕ) → sane.IsSane h
-    → is_carried k h.carried ≡ true → load_of (enters h origin r now) k ≡ load_of h k
+    → is_carried k h.carried ≡ true → carried_chunk_of (enters h origin r now) k ≡ carried_chunk_of h k
 load-stays h origin r now k own has =
     let cells = carried-stays h origin r now k own has in
     let setting = enters-setting h origin r now in λ i. record {

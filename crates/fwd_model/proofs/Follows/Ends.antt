@@ -5,14 +5,14 @@ use Rattle.std.specs.Prelude.{◌⊎◌, is_some, map, not, ◌==◌, option_to_
 use Rattle.std.specs.List.{AllByRecursion}
 use Rattle.std.proofs.lemmas.Bool.Decides.{nat_tests}
 use Rattle.fwd_chunks.specs.Cells.{has_number, is_carried, without}
-use Rattle.fwd_chunks.specs.History.{BufferHistory, Load, looks, frees}
+use Rattle.fwd_chunks.specs.History.{BufferHistory, CarriedChunk, looks, frees}
 use Rattle.fwd_chunks.specs.Live.{live_buffer}
 use Rattle.fwd_chunks.proofs.Follows as buffer
 use Rattle.fwd_chunks.proofs.Sane as sane
 use Rattle.fwd_failover.specs.History.{ServersSetting, ServersHistory}
 use Rattle.fwd_failover.specs.Live.{live_servers}
 use Rattle.fwd_failover.proofs.Kept.{live-lost}
-use Rattle.fwd_session.specs.Evidence.{Accepted}
+use Rattle.fwd_session.specs.ServerAcks.{Accepted}
 use Rattle.fwd_session.specs.History.{SessionHistory, chunks_of, first_in}
 use Rattle.fwd_session.proofs.Lists.{all_append, all_same, find_passes}
 use Rattle.fwd_book.specs.Live.{live_book}
@@ -113,19 +113,19 @@ pub record Backs (b : BufferHistory) (w : ℕ) (back : List Return) : Type 0 whe
   pub his : AllByRecursion (λ k. has_chunk k (carried_by b w) ≡ true) (numbers_of back)
   pub all : others_all (numbers_of back) (carried_by b w) ≡ []
 
-numbers_given : (lost : Bool) (cs : List Load) → numbers_of (map (return_of lost) cs) ≡ numbers_in cs
+numbers_given : (lost : Bool) (cs : List CarriedChunk) → numbers_of (map (return_of lost) cs) ≡ numbers_in cs
 numbers_given lost [] = refl
 numbers_given lost (c ∷ cs) = ap (λ ks. c.number ∷ ks) (numbers_given lost cs)
 
-numbers_returned : (taken : Option Load) (hs : List Load)
+numbers_returned : (taken : Option CarriedChunk) (hs : List CarriedChunk)
     → numbers_of (returned taken hs) ≡ numbers_in (option_to_list taken ++ hs)
 numbers_returned taken hs =
     map-append (λ (r : Return). r.number) (map (return_of false) (option_to_list taken)) (map (return_of true) hs)
     ∙ (λ i. numbers_given false (option_to_list taken) i ++ numbers_given true hs i)
-    ∙ sym (map-append (λ (c : Load). c.number) (option_to_list taken) hs)
+    ∙ sym (map-append (λ (c : CarriedChunk). c.number) (option_to_list taken) hs)
 
 -- a chunk that is missing and the chunks of a session stand once
-both_once : (hs cs : List Load) (o : Option Load) → not_loaded hs cs ≡ o
+both_once : (hs cs : List CarriedChunk) (o : Option CarriedChunk) → not_loaded hs cs ≡ o
     → ((k : ℕ) → times k hs ≤ 1) → (k : ℕ) → times k (option_to_list o ++ hs) ≤ 1
 both_once hs cs None e once k = once k
 both_once hs cs (Some c) e once k = by (eqb c.number k) refl
@@ -140,17 +140,17 @@ both_once hs cs (Some c) e once k = by (eqb c.number k) refl
         omega (arith, none)
     by false f = once k
 
-all_numbers : (P : ℕ → Type 0) (cs : List Load) → AllByRecursion (λ c. P c.number) cs
+all_numbers : (P : ℕ → Type 0) (cs : List CarriedChunk) → AllByRecursion (λ c. P c.number) cs
     → AllByRecursion P (numbers_in cs)
 all_numbers P [] all = tt
 all_numbers P (c ∷ cs) all = (all.0, all_numbers P cs all.1)
 
-all_taken : (P : Load → Type 0) (o : Option Load) → ((c : Load) → o ≡ Some c → P c)
+all_taken : (P : CarriedChunk → Type 0) (o : Option CarriedChunk) → ((c : CarriedChunk) → o ≡ Some c → P c)
     → AllByRecursion P (option_to_list o)
 all_taken P None all = tt
 all_taken P (Some c) all = (all c refl, tt)
 
-pub backs : (b : BufferHistory) (w : ℕ) (hs : List Load)
+pub backs : (b : BufferHistory) (w : ℕ) (hs : List CarriedChunk)
     → AllByRecursion (λ c. IsAmong c (carried_by b w)) hs → ((k : ℕ) → times k hs ≤ 1)
     → length (missing hs (carried_by b w)) ≤ 1
     → Backs b w (returned (not_loaded hs (carried_by b w)) hs)
@@ -158,7 +158,7 @@ backs b w hs his once few =
     let cs = carried_by b w in
     let taken = not_loaded hs cs in
     let same = sym (numbers_returned taken hs) in
-    let mine : Load → Type 0 = λ c. has_chunk c.number cs ≡ true in
+    let mine : CarriedChunk → Type 0 = λ c. has_chunk c.number cs ≡ true in
     record {
       once = subst AreOnce same (once_in (option_to_list taken ++ hs) (both_once hs cs taken refl once));
       his = subst (AllByRecursion (λ k. has_chunk k cs ≡ true)) same (all_numbers (λ k. has_chunk k cs ≡ true) (option_to_list taken ++ hs)

@@ -5,8 +5,8 @@ use Rattle.std.specs.Prelude.{find, map, option_map, is_some, slice_get, not}
 use Rattle.std.specs.List.{AllByRecursion}
 use Rattle.std.proofs.lemmas.Option.{same_Some}
 use Rattle.std.proofs.lemmas.List.{length-append, map-append}
-use Rattle.fwd_chunks.specs.History.{Load}
-use Rattle.fwd_session.specs.Evidence.{Accepted, frame_of}
+use Rattle.fwd_chunks.specs.History.{CarriedChunk}
+use Rattle.fwd_session.specs.ServerAcks.{Accepted, frame_of}
 use Rattle.fwd_session.specs.Said.{names, without_first, left_by, accepted_for, accepted_by}
 use Rattle.fwd_session.specs.History.{Loaded, SessionHistory, IsSane as IsSaneHistory, chunks_of, says, listens, hears, loads}
 use Rattle.fwd_session.proofs.Following.{loads-sane}
@@ -58,11 +58,11 @@ is_some-option_map f (Some x) = refl
 -- ---- a session that has the same chunks
 
 -- a worker stays sane with another session, and what it took and did not load stays
-pub record StaysSane (n : ℕ) (cs : List Load) (x y : Option SessionHistory) : Type 0 where
+pub record StaysSane (n : ℕ) (cs : List CarriedChunk) (x y : Option SessionHistory) : Type 0 where
   pub sane : IsSaneWorker n cs y
   pub taken : not_loaded (loaded_in y) cs ≡ not_loaded (loaded_in x) cs
 
-pub same_chunks : (n : ℕ) (cs : List Load) (x : Option SessionHistory) (t : SessionHistory)
+pub same_chunks : (n : ℕ) (cs : List CarriedChunk) (x : Option SessionHistory) (t : SessionHistory)
     → IsSaneWorker n cs x → IsSaneHistory t → t.setup.window ≡ n
     → AllByRecursion (λ c. IsAmong c cs) (loaded_in (Some t))
     → ((k : ℕ) → times k (loaded_in (Some t)) ≡ times k (loaded_in x))
@@ -84,7 +84,7 @@ same_chunks n cs x t fits own window his same lengths =
 
 -- ---- what is heard leaves the chunks, in another order
 
-first_times : (k : ℕ) (v : List ℕ) (cs : List Load)
+first_times : (k : ℕ) (v : List ℕ) (cs : List CarriedChunk)
     → times k (map (λ a. a.chunk) (accepted_for v (find (λ c. names v c.name) cs)))
     + times k (without_first (λ c. names v c.name) cs)
     ≡ times k cs
@@ -110,35 +110,35 @@ first_times k v (c ∷ cs) = by (names v c.name) (eqb c.number k) (first_times k
         at true = omega (arith, rest)
         at false = omega (arith, rest)
 
-left_times : (k : ℕ) (vs : List (List ℕ)) (cs : List Load)
+left_times : (k : ℕ) (vs : List (List ℕ)) (cs : List CarriedChunk)
     → times k (left_by (λ c. c.name) vs cs) + times k (map (λ a. a.chunk) (accepted_by vs cs))
     ≡ times k cs
 left_times k [] cs = omega arith
 left_times k (v ∷ vs) cs =
-    let left = without_first (λ (c : Load). names v c.name) cs in
+    let left = without_first (λ (c : CarriedChunk). names v c.name) cs in
     let one = map (λ (a : Accepted). a.chunk) (accepted_for v (find (λ c. names v c.name) cs)) in
     let later = map (λ (a : Accepted). a.chunk) (accepted_by vs left) in
     let parts : times k (map (λ (a : Accepted). a.chunk) (accepted_by (v ∷ vs) cs)) ≡ times k one + times k later =
     ap (times k) (map-append (λ (a : Accepted). a.chunk) (accepted_for v (find (λ c. names v c.name) cs)) (accepted_by vs left)) ∙ times-append k one later in
     omega (arith, parts, left_times k vs left, first_times k v cs)
 
-all_for : (P : Load → Type 0) (v : List ℕ) (o : Option Load) → ((c : Load) → o ≡ Some c → P c)
+all_for : (P : CarriedChunk → Type 0) (v : List ℕ) (o : Option CarriedChunk) → ((c : CarriedChunk) → o ≡ Some c → P c)
     → AllByRecursion P (map (λ a. a.chunk) (accepted_for v o))
 all_for P v None all = tt
 all_for P v (Some c) all = (all c refl, tt)
 
-all_accepted : (P : Load → Type 0) (vs : List (List ℕ)) (cs : List Load) → AllByRecursion P cs
+all_accepted : (P : CarriedChunk → Type 0) (vs : List (List ℕ)) (cs : List CarriedChunk) → AllByRecursion P cs
     → AllByRecursion P (map (λ a. a.chunk) (accepted_by vs cs))
 all_accepted P [] cs all = tt
 all_accepted P (v ∷ vs) cs all =
-    let left = without_first (λ (c : Load). names v c.name) cs in
+    let left = without_first (λ (c : CarriedChunk). names v c.name) cs in
     subst (AllByRecursion P) (sym (map-append (λ (a : Accepted). a.chunk) (accepted_for v (find (λ c. names v c.name) cs)) (accepted_by vs left)))
     (all_append P _ _ (all_for P v (find (λ c. names v c.name) cs) (λ c e. all_find P (λ c. names v c.name) cs c all e)) (all_accepted P vs left (all_without P (λ c. names v c.name) cs all)))
 
 module _ (s : SessionHistory) (bytes : List ℕ) where
   left_chunks : chunks_of (listens s bytes (says s bytes)).carried
       ≡ left_by (λ c. c.name) (says s bytes).replies (chunks_of s.carried)
-  left_chunks = sym (left_map (λ (c : Load). c.name) (λ (l : Loaded). l.chunk) (says s bytes).replies s.carried)
+  left_chunks = sym (left_map (λ (c : CarriedChunk). c.name) (λ (l : Loaded). l.chunk) (says s bytes).replies s.carried)
 
   listens-times : (k : ℕ)
       → times k (loaded_in (Some (listens s bytes (says s bytes)))) ≡ times k (loaded_in (Some s))
@@ -147,21 +147,21 @@ module _ (s : SessionHistory) (bytes : List ℕ) where
       let cs = chunks_of s.carried in
       let before = map (λ (a : Accepted). a.chunk) s.accepted in
       let now = map (λ (a : Accepted). a.chunk) (accepted_by vs cs) in
-      let left = left_by (λ (c : Load). c.name) vs cs in
+      let left = left_by (λ (c : CarriedChunk). c.name) vs cs in
       let shown : loaded_in (Some (listens s bytes (says s bytes))) ≡ left ++ (before ++ now) =
       (λ i. left_chunks i ++ map-append (λ (a : Accepted). a.chunk) s.accepted (accepted_by vs cs) i) in
       let all : times k (loaded_in (Some (listens s bytes (says s bytes)))) ≡ times k left + (times k before + times k now) =
       ap (times k) shown ∙ times-append k left (before ++ now) ∙ ap (λ n. times k left + n) (times-append k before now) in
       omega (arith, all, left_times k vs cs, times-append k cs before)
 
-  listens-all : (P : Load → Type 0) → AllByRecursion P (loaded_in (Some s))
+  listens-all : (P : CarriedChunk → Type 0) → AllByRecursion P (loaded_in (Some s))
       → AllByRecursion P (loaded_in (Some (listens s bytes (says s bytes))))
   listens-all P all =
       let vs = (says s bytes).replies in
       let cs = chunks_of s.carried in
       let before = map (λ (a : Accepted). a.chunk) s.accepted in
       let now = map (λ (a : Accepted). a.chunk) (accepted_by vs cs) in
-      let left = left_by (λ (c : Load). c.name) vs cs in
+      let left = left_by (λ (c : CarriedChunk). c.name) vs cs in
       let shown : loaded_in (Some (listens s bytes (says s bytes))) ≡ left ++ (before ++ now) =
       (λ i. left_chunks i ++ map-append (λ (a : Accepted). a.chunk) s.accepted (accepted_by vs cs) i) in
       let front = all_front P cs before all in
@@ -173,7 +173,7 @@ module _ (s : SessionHistory) (bytes : List ℕ) where
       let cs = chunks_of s.carried in
       let before = map (λ (a : Accepted). a.chunk) s.accepted in
       let now = map (λ (a : Accepted). a.chunk) (accepted_by vs cs) in
-      let left = left_by (λ (c : Load). c.name) vs cs in
+      let left = left_by (λ (c : CarriedChunk). c.name) vs cs in
       let shown : loaded_in (Some (listens s bytes (says s bytes))) ≡ left ++ (before ++ now) =
       (λ i. left_chunks i ++ map-append (λ (a : Accepted). a.chunk) s.accepted (accepted_by vs cs) i) in
       omega (arith, ap length shown, length-append left (before ++ now), length-append before now, length_map (λ (a : Accepted). a.chunk) (accepted_by vs cs), left_length vs cs, length-append cs before)
@@ -202,7 +202,7 @@ module _ (s : SessionHistory) (bytes : List ℕ) where
       by true = refl
       by false = listens-times k
 
-  pub hears-all : (P : Load → Type 0) → AllByRecursion P (loaded_in (Some s))
+  pub hears-all : (P : CarriedChunk → Type 0) → AllByRecursion P (loaded_in (Some s))
       → AllByRecursion P (loaded_in (Some (hears s bytes)))
   hears-all P all = by s.down
     where
@@ -212,7 +212,7 @@ module _ (s : SessionHistory) (bytes : List ℕ) where
 
 -- ---- one chunk more
 
-module _ (s : SessionHistory) (c : Load) (now : ℕ) where
+module _ (s : SessionHistory) (c : CarriedChunk) (now : ℕ) where
   one_more : loaded_in (Some (loads s c now))
       ≡ (chunks_of s.carried ++ c ∷ []) ++ map (λ a. a.chunk) s.accepted
   one_more = ap (λ cs. cs ++ map (λ (a : Accepted). a.chunk) s.accepted) (map-append (λ (l : Loaded). l.chunk) s.carried (record { chunk = c; through = length (s.appended ++ frame_of c); moment = max s.moment now } ∷ []))
@@ -235,7 +235,7 @@ module _ (s : SessionHistory) (c : Load) (now : ℕ) where
       by false e = omega (arith, e)
 
   -- it is the one that the worker took and did not load, and then none is
-  pub loads_taken : (n : ℕ) (cs : List Load) → IsSaneWorker n cs (Some s)
+  pub loads_taken : (n : ℕ) (cs : List CarriedChunk) → IsSaneWorker n cs (Some s)
       → not_loaded (loaded_in (Some s)) cs ≡ Some c
       → IsSaneWorker n cs (Some (loads s c now))
       × (not_loaded (loaded_in (Some (loads s c now))) cs ≡ None)
@@ -243,11 +243,11 @@ module _ (s : SessionHistory) (c : Load) (now : ℕ) where
       let hs = loaded_in (Some s) in
       let gs = loaded_in (Some (loads s c now)) in
       let one = loads_one hs gs cs c more_times found fits.rest in
-      let P : Load → Type 0 = λ d. IsAmong d cs in
+      let P : CarriedChunk → Type 0 = λ d. IsAmong d cs in
       let front = chunks_of s.carried in
       let back = map (λ (a : Accepted). a.chunk) s.accepted in
       let more : length gs ≡ suc (length hs) = omega (arith, ap length one_more, length-append (front ++ c ∷ []) back, length-append front (c ∷ []), length-append front back) in
-      let was = some_pass (λ (d : Load). not (has_chunk d.number hs)) cs c found in (
+      let was = some_pass (λ (d : CarriedChunk). not (has_chunk d.number hs)) cs c found in (
         record {
           own = λ t e. subst IsSaneHistory (same_Some _ _ e) (loads-sane s c now (fits.own s refl));
           window = λ t e. ap (λ (y : SessionHistory). y.setup.window) (sym (same_Some _ _ e)) ∙ fits.window s refl;

@@ -5,11 +5,11 @@ use Rattle.std.proofs.lemmas.Bool.Decides.{nat_tests}
 use Rattle.std.specs.Prelude.{◌⊎◌, map, slice_get}
 use Rattle.std.specs.List.{AllByRecursion}
 use Rattle.std.proofs.lemmas.Option.{same_Some}
-use Rattle.fwd_chunks.specs.History.{BufferHistory, Load}
+use Rattle.fwd_chunks.specs.History.{BufferHistory, CarriedChunk}
 use Rattle.fwd_chunks.proofs.Follows as buffer
 use Rattle.fwd_chunks.proofs.Sane as sane
 use Rattle.fwd_failover.proofs.Kept.{live-settled}
-use Rattle.fwd_session.specs.Evidence.{Accepted, evidence_of}
+use Rattle.fwd_session.specs.ServerAcks.{Accepted, evidence_of}
 use Rattle.fwd_session.specs.History.{SessionHistory, chunks_of, first_in, unloads}
 use Rattle.fwd_session.specs.Live.{live_session}
 use Rattle.fwd_session.proofs.Following.{unloads-sane}
@@ -34,7 +34,7 @@ first_and_rest [] a e = absurd cc
 first_and_rest (b ∷ list) a e = ap (λ x. x ∷ list) (same_Some _ _ e)
 
 module _ (s : SessionHistory) (a : Accepted) (first : first_in s.accepted ≡ Some a) where
-  abbrev rest_of : List Load
+  abbrev rest_of : List CarriedChunk
   rest_of = map (λ (x : Accepted). x.chunk) (drop 1 s.accepted)
 
   shown : loaded_in (Some s) ≡ chunks_of s.carried ++ (a.chunk ∷ rest_of)
@@ -53,10 +53,10 @@ module _ (s : SessionHistory) (a : Accepted) (first : first_in s.accepted ≡ So
       by true e = omega (arith, e)
       by false e = omega (arith, e)
 
-  pub its_first : (P : Load → Type 0) → AllByRecursion P (loaded_in (Some s)) → P a.chunk
+  pub its_first : (P : CarriedChunk → Type 0) → AllByRecursion P (loaded_in (Some s)) → P a.chunk
   its_first P all = (all_back P (chunks_of s.carried) (a.chunk ∷ rest_of) (subst (AllByRecursion P) shown all)).0
 
-  pub its_rest : (P : Load → Type 0) → AllByRecursion P (loaded_in (Some s))
+  pub its_rest : (P : CarriedChunk → Type 0) → AllByRecursion P (loaded_in (Some s))
       → AllByRecursion P (loaded_in (Some (unloads s)))
   its_rest P all =
       let whole = subst (AllByRecursion P) shown all in
@@ -68,7 +68,7 @@ pub acked_is : {n : ℕ} (b : BufferHistory) (w : ℕ) (s : SessionHistory) (a :
 acked_is b w s a fits e = his b w a.chunk (its_first s a e (λ c. IsAmong c (carried_by b w)) fits.his)
 
 -- as many entries are settled
-pub count-same : (l : Lane) (w : ℕ) (c : Load) → IsSaneLane l → IsHis l.output.buffer w c
+pub count-same : (l : Lane) (w : ℕ) (c : CarriedChunk) → IsSaneLane l → IsHis l.output.buffer w c
     → count_at c.number l.output ≡ live_count_at c.number (live_lane l).output
 unfolding live_lane live_output
 count-same l w c own is = sym (buffer.count-live l.output.buffer c.number own.buffer is.carried)

@@ -7,8 +7,8 @@ use Rattle.std.proofs.lemmas.Bool.Decides.{nat_tests}
 use Rattle.std.proofs.lemmas.Option.{same_Some}
 use Rattle.std.proofs.lemmas.List.{length-append, map-append}
 use Rattle.fwd_chunks.specs.Cells.{Carry, is_carried}
-use Rattle.fwd_chunks.specs.History.{BufferHistory, Load, load_of, looks, given, carry_more, takes}
-use Rattle.fwd_chunks.specs.Live.{live_load, live_given}
+use Rattle.fwd_chunks.specs.History.{BufferHistory, CarriedChunk, carried_chunk_of, looks, given, carry_more, takes}
+use Rattle.fwd_chunks.specs.Live.{live_carried_chunk, live_given}
 use Rattle.fwd_chunks.proofs.Follows as buffer
 use Rattle.fwd_chunks.proofs.Runs.{load-live}
 use Rattle.fwd_chunks.proofs.Sane as sane
@@ -16,7 +16,7 @@ use Rattle.fwd_failover.specs.Live.{live_servers}
 use Rattle.fwd_session.proofs.Lists.{all_same, length_map}
 use Rattle.fwd_model.specs.Outputs.{carries_of, carried_by, has_chunk, not_loaded, live_output}
 use Rattle.fwd_book.specs.Live.{live_book}
-use Rattle.fwd_session.specs.Evidence.{Accepted}
+use Rattle.fwd_session.specs.ServerAcks.{Accepted}
 use Rattle.fwd_session.specs.History.{Loaded, SessionHistory, chunks_of}
 use Rattle.fwd_model.specs.Step as steps
 use Rattle.fwd_session.specs.Live.{live_session}
@@ -37,7 +37,7 @@ same_or a b = by_test (eqb a b) refl
     by_test false e = inr (λ same. grind (arith, nat_tests, e, same))
 
 -- a number that is not carried is of no chunk of a session
-fresh_in : (k : ℕ) (hs cs : List Load) → AllByRecursion (λ c. IsAmong c cs) hs
+fresh_in : (k : ℕ) (hs cs : List CarriedChunk) → AllByRecursion (λ c. IsAmong c cs) hs
     → has_chunk k cs ≡ false → has_chunk k hs ≡ false
 fresh_in k [] cs all free = refl
 fresh_in k (c ∷ hs) cs all free = by (c.number == k) refl (fresh_in k hs cs all.1 free)
@@ -65,46 +65,46 @@ free_of b w k free = by (has_chunk k (carried_by b w)) refl
 -- the chunks that the worker has then
 takes_more : (b : BufferHistory) (w : ℕ) (cs : List Carry) (k : ℕ)
     → loads_of b (carries_of w (carry_more w (Some k) cs))
-    ≡ loads_of b (carries_of w cs) ++ load_of b k ∷ []
+    ≡ loads_of b (carries_of w cs) ++ carried_chunk_of b k ∷ []
 takes_more b w cs k =
     ap (loads_of b) (carries-push_same w k cs)
-    ∙ map-append (λ (c : Carry). load_of b c.number) (carries_of w cs) (record { worker = w; number = k } ∷ [])
+    ∙ map-append (λ (c : Carry). carried_chunk_of b c.number) (carries_of w cs) (record { worker = w; number = k } ∷ [])
 
 -- what a worker has that took, where all that it had was loaded and there was room
-record Took (n : ℕ) (hs : List Load) (cs : List Load) (taken : Option Load) : Type 0 where
+record Took (n : ℕ) (hs : List CarriedChunk) (cs : List CarriedChunk) (taken : Option CarriedChunk) : Type 0 where
   pub is : not_loaded hs cs ≡ taken
   pub his : AllByRecursion (λ c. IsAmong c cs) hs
   pub rest : length (missing hs cs) ≤ 1
   pub whole : length cs ≡ length hs + length (missing hs cs)
   pub few : length cs ≤ n
 
-took : (n : ℕ) (b : BufferHistory) (w : ℕ) (hs : List Load) (found : Option ℕ)
+took : (n : ℕ) (b : BufferHistory) (w : ℕ) (hs : List CarriedChunk) (found : Option ℕ)
     → AllByRecursion (λ c. IsAmong c (carried_by b w)) hs
     → not_loaded hs (carried_by b w) ≡ None
     → length (carried_by b w) ≡ length hs + length (missing hs (carried_by b w))
     → length hs < n
     → ((k : ℕ) → found ≡ Some k → is_carried k b.carried ≡ false)
-    → Took n hs (loads_of b (carries_of w (carry_more w found b.carried))) (option_map (load_of b) found)
+    → Took n hs (loads_of b (carries_of w (carry_more w found b.carried))) (option_map (carried_chunk_of b) found)
 took n b w hs None his none whole room free =
     let left : length (missing hs (carried_by b w)) ≡ 0 = ap length (none_found (λ c. not (has_chunk c.number hs)) (carried_by b w) none) in
     record { is = none; his = his; rest = omega (arith, left); whole = whole; few = omega (arith, whole, left, room) }
 took n b w hs (Some k) his none whole room free =
     let cs = carried_by b w in
     let fresh : has_chunk k hs ≡ false = fresh_in k hs cs his (free_of b w k (free k refl)) in
-    let last = found_last (λ c. not (has_chunk c.number hs)) cs (load_of b k) none (ap not fresh) in
+    let last = found_last (λ c. not (has_chunk c.number hs)) cs (carried_chunk_of b k) none (ap not fresh) in
     let left : length (missing hs cs) ≡ 0 = ap length (none_found (λ c. not (has_chunk c.number hs)) cs none) in
-    let one : length (missing hs (cs ++ load_of b k ∷ [])) ≡ 1 = ap length last.1 in
-    let more : length (cs ++ load_of b k ∷ []) ≡ suc (length cs) = omega (arith, length-append cs (load_of b k ∷ [])) in
-    subst (λ ds. Took n hs ds (Some (load_of b k))) (sym (takes_more b w b.carried k)) (record {
+    let one : length (missing hs (cs ++ carried_chunk_of b k ∷ [])) ≡ 1 = ap length last.1 in
+    let more : length (cs ++ carried_chunk_of b k ∷ []) ≡ suc (length cs) = omega (arith, length-append cs (carried_chunk_of b k ∷ [])) in
+    subst (λ ds. Took n hs ds (Some (carried_chunk_of b k))) (sym (takes_more b w b.carried k)) (record {
       is = last.0;
-      his = all_same (λ c. IsAmong c cs) (λ c. IsAmong c (cs ++ load_of b k ∷ [])) hs (λ c one. among-append c cs (load_of b k ∷ []) one) his;
+      his = all_same (λ c. IsAmong c cs) (λ c. IsAmong c (cs ++ carried_chunk_of b k ∷ [])) hs (λ c one. among-append c cs (carried_chunk_of b k ∷ []) one) his;
       rest = omega (arith, one);
       whole = omega (arith, more, whole, left, one);
       few = omega (arith, more, whole, left, room);
     })
 
 -- where a session is not full, it has fewer chunks than its window
-has_room : (n : ℕ) (cs : List Load) (x : Option SessionHistory) → IsSaneWorker n cs x → 0 < n
+has_room : (n : ℕ) (cs : List CarriedChunk) (x : Option SessionHistory) → IsSaneWorker n cs x → 0 < n
     → steps.is_full histories x ≡ false → length (loaded_in x) < n
 has_room n cs None fits some e = some
 has_room n cs (Some s) fits some e =
@@ -137,7 +137,7 @@ pub given-same : (l : Lane) (now : ℕ) → IsSaneLane l
 unfolding live_lane live_output
 given-same l now own =
     load-live (looks l.output.buffer now) l.output.buffer.setting.limits.bounded (sane.looks-sane l.output.buffer now own.buffer)
-    ∙ ap (λ b. option_map (live_load b) (live_given b)) (buffer.looks-live l.output.buffer now)
+    ∙ ap (λ b. option_map (live_carried_chunk b) (live_given b)) (buffer.looks-live l.output.buffer now)
 
 module _ (l : Lane) (w now : ℕ) (s : Option SessionHistory) (here : slice_get l.sessions w ≡ Some s) (none : taken_by l.output.buffer w s ≡ None) (free : steps.is_full histories s ≡ false) (own : IsSaneLane l) where
   abbrev its : Took l.config.acks.window

@@ -11,7 +11,7 @@ use Rattle.fwd_source.specs.History.{Setup, SourceHistory, opened, waiting}
 use Rattle.fwd_chunks.specs.declared.flush.FlushKind.{FlushKind}
 use Rattle.fwd_chunks.specs.declared.fault.AdmitError.{AdmitError}
 use Rattle.fwd_chunks.specs.declared.fault.AdmitError.TheVariants.{Full, NumbersSpent, Memory}
-use Rattle.fwd_session.specs.Evidence.{Accepted, evidence_of}
+use Rattle.fwd_session.specs.ServerAcks.{Accepted, evidence_of}
 use Rattle.fwd_session.specs.History.{SessionHistory, unloads}
 use Rattle.fwd_model.specs.declared.config.OutputConfig.{OutputConfig}
 use Rattle.fwd_model.specs.declared.event.Event.{Event}

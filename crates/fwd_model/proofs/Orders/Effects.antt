@@ -10,7 +10,7 @@ use Rattle.fwd_chunks.specs.declared.flush.FlushKind.{FlushKind}
 use Rattle.fwd_chunks.specs.declared.fault.AdmitError.{AdmitError}
 use Rattle.fwd_chunks.specs.declared.fault.AdmitError.TheVariants.{Full, NumbersSpent, Memory}
 use Rattle.fwd_chunks.specs.History.{looks, given, flushes, takes}
-use Rattle.fwd_session.specs.Evidence.{evidence_of}
+use Rattle.fwd_session.specs.ServerAcks.{evidence_of}
 use Rattle.fwd_session.specs.History.{SessionHistory, unloads}
 use Rattle.fwd_book.specs.History.{tells_due, forgets_of}
 use Rattle.fwd_model.specs.declared.event.Event.{Event}

@@ -3,7 +3,7 @@ use Rattle.std.specs.Prelude.{◌==◌}
 use Rattle.std.specs.List.{list_any}
 use Rattle.std.proofs.lemmas.List.{take_all}
 use Rattle.fwd_chunks.specs.declared.span.Span.{Span}
-use Rattle.fwd_book.specs.Notes.{note_at, used_less}
+use Rattle.fwd_book.specs.ChunkRefs.{note_at, used_less}
 use Rattle.fwd_book.proofs.Stepping.{stepped}
 use Rattle.fwd_book.proofs.book.leave_all.Goals as goal
 

@@ -1,7 +1,7 @@
 use Rattle.std.proofs.Common.{◌≡◌, ◌≤◌, ℕ, cond, take}
 use Rattle.std.specs.Prelude.{◌==◌}
 use Rattle.std.specs.List.{list_any}
-use Rattle.fwd_book.specs.Notes.{note_at, used_less}
+use Rattle.fwd_book.specs.ChunkRefs.{note_at, used_less}
 use Rattle.fwd_book.proofs.book.leave_all.Given as goal
 
 -- the numbers of the runs so far are noted, and no room is lost

@@ -3,7 +3,7 @@ use Rattle.std.specs.Prelude.{◌==◌, slice_index_or}
 use Rattle.std.specs.List.{list_any}
 use Rattle.std.proofs.lemmas.List.{take_all}
 use Rattle.fwd_chunks.specs.declared.span.Span.{Span}
-use Rattle.fwd_book.specs.Notes.{note_at, uses_in, used_more}
+use Rattle.fwd_book.specs.ChunkRefs.{note_at, uses_in, used_more}
 use Rattle.fwd_book.proofs.Stepping.{stepped, unchanged}
 use Rattle.fwd_book.proofs.book.use_all.Goals as goal
 

@@ -1,6 +1,6 @@
 use Rattle.std.proofs.Common.{◌≡◌, ◌<◌, List, [], ◌∷◌, ◌∙◌}
 use Rattle.std.specs.List.{AllByRecursion}
-use Rattle.fwd_counts.specs.declared.tag_count.TagCount.{TagCount}
+use Rattle.fwd_base.specs.declared.tag_count.TagCount.{TagCount}
 use Rattle.fwd_chunks.specs.TagCounts.{tagged_in, tag_count, tag_counts}
 use Rattle.fwd_chunks.proofs.Sane.{reached-sane}
 use Rattle.fwd_chunks.proofs.TagOrder.{tags_rise}

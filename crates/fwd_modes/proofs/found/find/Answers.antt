@@ -5,7 +5,7 @@ use Rattle.std.proofs.lemmas.List.{length-append}
 use Rattle.fwd_msgpack.specs.Values.{bytes_of}
 use Rattle.fwd_modes.specs.Requests.Reading.{Asks}
 use Rattle.fwd_modes.specs.Readings.{entries_given}
-use Rattle.fwd_modes.specs.declared.parts.Given.TheVariants.{Packed}
+use Rattle.fwd_modes.specs.declared.request_fields.EntriesForm.TheVariants.{Packed}
 use Rattle.fwd_modes.specs.Entries.{AreCut, AreFull, cut_at, packed_entries}
 use Rattle.fwd_modes.proofs.EntryLemmas.{full_packed}
 use Rattle.fwd_modes.proofs.Moving.{found_asks, tag_in, chunk_in, chunk_bound}

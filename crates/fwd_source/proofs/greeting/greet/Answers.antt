@@ -29,8 +29,8 @@ pub returns-then-not-is_nil-clause-end : goal.returns-then-not-is_nil-clause-end
 returns-then-not-is_nil-clause-end c =
     let rest = c.values.rest.now in
     let behind = c.in-Value.behind.now in
-    greeting_ends c.welcome.result behind c.args.unjudged.bytes.now c.welcome.ensures.end
-    (end_of_end behind rest c.args.unjudged.bytes.now (end_behind (bytes_of c.in-Value.value) behind rest c.in-Value.ensures.parts.0) c.values.invariant.end)
+    greeting_ends c.welcome.result behind c.args.unparsed.bytes.now c.welcome.ensures.end
+    (end_of_end behind rest c.args.unparsed.bytes.now (end_behind (bytes_of c.in-Value.value) behind rest c.in-Value.ensures.parts.0) c.values.invariant.end)
 
 pub values-preserved : goal.values-preserved
 values-preserved c =
@@ -45,7 +45,7 @@ values-preserved c =
           c.values.invariant.said n
           ∙ judged_at limits c.values.scanner.limits c.values.invariant.limits (Some verdict) n rest (next.Value c.in-Value.value c.in-Value.behind) c.in-Value.ensures.split
           ∙ ap (λ b. cond b (judged_of limits (Some verdict) n behind) (welcomed (verdict value) (judged_of limits None n behind))) nil;
-      end = end_of_end behind rest c.args.unjudged.bytes.now (end_behind value behind rest c.in-Value.ensures.parts.0) c.values.invariant.end;
+      end = end_of_end behind rest c.args.unparsed.bytes.now (end_behind value behind rest c.in-Value.ensures.parts.0) c.values.invariant.end;
       limits = c.in-Value.ensures.limits ∙ c.values.invariant.limits;
       within = omega arith;
       behind = behind_none limits c.next_value.new.self (c.in-Value.ensures.after ∙ ap fresh c.values.invariant.limits);

@@ -9,9 +9,9 @@ use Rattle.fwd_source.proofs.greeting.greet.Given as goal
 abbrev pub invariant-values : goal.invariant-values
 invariant-values l = record {
   said : (n : ℕ)
-      → judged_of l.fn.scanner.limits (Some (ping_verdict l.fn.security l.fn.nonces)) n l.fn.unjudged.bytes.now
+      → judged_of l.fn.scanner.limits (Some (ping_verdict l.fn.security l.fn.nonces)) n l.fn.unparsed.bytes.now
       ≡ judged_of l.fn.scanner.limits (Some (ping_verdict l.fn.security l.fn.nonces)) n l.rest;
-  end : IsEndOf l.rest l.fn.unjudged.bytes.now;
+  end : IsEndOf l.rest l.fn.unparsed.bytes.now;
   limits : l.scanner.limits ≡ l.fn.scanner.limits;
   within : l.scanned ≤ length l.rest;
   behind : IsBehind l.fn.scanner.limits (take l.scanned l.rest) l.scanner;

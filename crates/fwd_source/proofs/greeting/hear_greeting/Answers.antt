@@ -8,16 +8,16 @@ use Rattle.fwd_source.proofs.greeting.hear_greeting.Goals as goal
 
 pub returns-in-Ended-clause-value : goal.returns-in-Ended-clause-value
 returns-in-Ended-clause-value c =
-    sym (subst (λ g. Greets c.args.scanner.now.limits (ping_verdict c.args.security.now c.args.nonces.now) c.args.count c.args.unjudged.bytes.now g) c.in-Ended.is (c.in_ok-heard.ensures.what c.args.count)).0
+    sym (subst (λ g. Greets c.args.scanner.now.limits (ping_verdict c.args.security.now c.args.nonces.now) c.args.count c.args.unparsed.bytes.now g) c.in-Ended.is (c.in_ok-heard.ensures.what c.args.count)).0
 
 pub returns-in-Ended-clause-room : goal.returns-in-Ended-clause-room
 returns-in-Ended-clause-room c =
-    let none = (subst (λ g. Greets c.args.scanner.now.limits (ping_verdict c.args.security.now c.args.nonces.now) c.args.count c.args.unjudged.bytes.now g) c.in-Ended.is (c.in_ok-heard.ensures.what c.args.count)).1 in
+    let none = (subst (λ g. Greets c.args.scanner.now.limits (ping_verdict c.args.security.now c.args.nonces.now) c.args.count c.args.unparsed.bytes.now g) c.in-Ended.is (c.in_ok-heard.ensures.what c.args.count)).1 in
     rw none (omega (arith, c.requires))
 
 pub returns-in_ok-heard-in-Passed-clause-value : goal.returns-in_ok-heard-in-Passed-clause-value
 returns-in_ok-heard-in-Passed-clause-value c =
-    let said = subst (λ g. Greets c.args.scanner.now.limits (ping_verdict c.args.security.now c.args.nonces.now) c.args.count c.args.unjudged.bytes.now g) c.in-Passed.is (c.in_ok-heard.ensures.what c.args.count) in
+    let said = subst (λ g. Greets c.args.scanner.now.limits (ping_verdict c.args.security.now c.args.nonces.now) c.args.count c.args.unparsed.bytes.now g) c.in-Passed.is (c.in_ok-heard.ensures.what c.args.count) in
     let behind = judged_of c.args.scanner.now.limits None c.args.count c.in-Passed.behind.now in
     let same : shown c.in_ok-heard-in-Passed.heard ≡ behind = c.in_ok-heard-in-Passed.ensures.value ∙ ap (λ l. judged_of l None c.args.count c.in-Passed.behind.now) c.in_ok-heard.ensures.limits in
     let none : behind.pong ≡ [] = sym (ap (λ (j : Judged). j.pong) same) ∙ c.in_ok-heard-in-Passed.ensures.no_pong in
@@ -26,10 +26,10 @@ returns-in_ok-heard-in-Passed-clause-value c =
 
 pub returns-in-Ended-clause-end : goal.returns-in-Ended-clause-end
 returns-in-Ended-clause-end c =
-    subst (EndsIn c.args.unjudged.bytes.now) c.in-Ended.is c.in_ok-heard.ensures.end
+    subst (EndsIn c.args.unparsed.bytes.now) c.in-Ended.is c.in_ok-heard.ensures.end
 
 pub returns-in_ok-heard-in-Passed-clause-end : goal.returns-in_ok-heard-in-Passed-clause-end
 returns-in_ok-heard-in-Passed-clause-end c =
-    end_of_end c.in_ok-heard-in-Passed.heard.rest.now c.in-Passed.behind.now c.args.unjudged.bytes.now
+    end_of_end c.in_ok-heard-in-Passed.heard.rest.now c.in-Passed.behind.now c.args.unparsed.bytes.now
     c.in_ok-heard-in-Passed.ensures.end
-    (subst (EndsIn c.args.unjudged.bytes.now) c.in-Passed.is c.in_ok-heard.ensures.end)
+    (subst (EndsIn c.args.unparsed.bytes.now) c.in-Passed.is c.in_ok-heard.ensures.end)

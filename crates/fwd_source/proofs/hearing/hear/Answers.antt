@@ -42,13 +42,13 @@ values-preserved c =
     let taken = subst (TakesIn old new c.args.count (request_of limits.depth value)) c.in_default-3.is (subst (λ (l : Limits). TakesIn old new c.args.count (request_of l.depth value) c.in_ok-fault-in-Value.field-0) c.limits-limits.ensures c.in_ok-fault-in-Value.ensures.value) in
     record {
       said = c.values.invariant.said ∙ ap (joined old []) next ∙ taken (λ k. judged_of limits None k behind);
-      end = end_of_end behind c.values.rest.now c.args.unjudged.bytes.now (end_behind value behind c.values.rest.now c.in-Value.ensures.parts.0) c.values.invariant.end;
+      end = end_of_end behind c.values.rest.now c.args.unparsed.bytes.now (end_behind value behind c.values.rest.now c.in-Value.ensures.parts.0) c.values.invariant.end;
       limits = c.in-Value.ensures.limits ∙ c.values.invariant.limits;
       within = omega arith;
       behind = behind_none limits c.next_value.new.self (c.in-Value.ensures.after ∙ ap fresh c.values.invariant.limits);
       room = c.in_ok-fault-in-Value.ensures.room;
-      first = λ (refused : IsRefused limits c.args.unjudged.bytes.now).
-          let fails = refuses limits c.values.scanner.limits c.values.invariant.limits c.values.rest.now c.args.unjudged.bytes.now (c.values.invariant.first refused) c.in-Value.value c.in-Value.behind c.in-Value.ensures.split refused in
+      first = λ (refused : IsRefused limits c.args.unparsed.bytes.now).
+          let fails = refuses limits c.values.scanner.limits c.values.invariant.limits c.values.rest.now c.args.unparsed.bytes.now (c.values.invariant.first refused) c.in-Value.value c.in-Value.behind c.in-Value.ensures.split refused in
           let fails' = subst (λ (l : Limits). request_of l.depth value ≡ Fails refused.fault) (sym c.limits-limits.ensures) fails in
           let no = sym (c.in_ok-fault-in-Value.was ∙ ap Ok c.in_default-3.is) ∙ c.take_in.ensures.refused refused.fault refused.beside fails' in
           absurd cc;
@@ -58,7 +58,7 @@ pub returns-in_err-fault-in-Value-clause-refused : goal.returns-in_err-fault-in-
 returns-in_err-fault-in-Value-clause-refused c refused =
     let limits = c.args.scanner.now.limits in
     let value = bytes_of c.in-Value.value in
-    let fails = refuses limits c.values.scanner.limits c.values.invariant.limits c.values.rest.now c.args.unjudged.bytes.now (c.values.invariant.first refused) c.in-Value.value c.in-Value.behind c.in-Value.ensures.split refused in
+    let fails = refuses limits c.values.scanner.limits c.values.invariant.limits c.values.rest.now c.args.unparsed.bytes.now (c.values.invariant.first refused) c.in-Value.value c.in-Value.behind c.in-Value.ensures.split refused in
     let fails' = subst (λ (l : Limits). request_of l.depth value ≡ Fails refused.fault) (sym c.limits-limits.ensures) fails in
     let no = sym c.in_err-fault-in-Value.was ∙ c.take_in.ensures.refused refused.fault refused.beside fails' in
     absurd cc
@@ -88,10 +88,10 @@ values-preserved-in-Some c =
     let stands = subst (λ (k : ℕ). IsBehind limits (take k rest) c.values.scanner) none c.values.invariant.behind in
     rw (take_rest rest front.len) (record {
       said = c.values.invariant.said ∙ ap (joined old []) next ∙ taken (λ k. judged_of limits None k behind);
-      end = end_of_end behind rest c.args.unjudged.bytes.now (end_behind (take front.len rest) behind rest (sym (take-append-drop front.len rest))) c.values.invariant.end;
+      end = end_of_end behind rest c.args.unparsed.bytes.now (end_behind (take front.len rest) behind rest (sym (take-append-drop front.len rest))) c.values.invariant.end;
       limits = c.values.invariant.limits;
       within = omega (arith, none);
       behind = subst (λ (k : ℕ). IsBehind limits (take k behind) c.values.scanner) (sym none) stands;
       room = c.in_ok-fault.ensures.room;
-      first = λ refused. absurd (no_front limits c.limits-limits.result c.limits-limits.ensures rest c.args.unjudged.bytes.now (c.values.invariant.first refused) front.request front.len c.in-Some.ensures.0 refused);
+      first = λ refused. absurd (no_front limits c.limits-limits.result c.limits-limits.ensures rest c.args.unparsed.bytes.now (c.values.invariant.first refused) front.request front.len c.in-Some.ensures.0 refused);
     })

@@ -5,7 +5,7 @@ use Rattle.fwd_msgpack.specs.declared.limits.Limits.{Limits}
 use Rattle.fwd_msgpack.specs.declared.scanner.Fed.{Fed}
 use Rattle.fwd_msgpack.specs.Scans.{Whole, first_of}
 use Rattle.fwd_msgpack.specs.Scanners.{IsBehind}
-use Rattle.fwd_source.specs.declared.taking.Taken.{Taken}
+use Rattle.fwd_source.specs.declared.taking.Parsed.{Parsed}
 use Rattle.fwd_source.specs.Judged.{Judged, judged_of, value_then}
 use Rattle.fwd_source.specs.Hearing.{AreTaken, Feeds, kept_of}
 use Rattle.fwd_source.proofs.Judging.{judged_of-short, judged_of-bad}
@@ -51,7 +51,7 @@ returns-in-End-clause-taken c =
     let fed = subst (λ (f : Fed). Feeds limits rest bytes f all c.go_on.new.scanner) c.in-End.is c.in_ok-go_on.ensures.fed in
     let cut = ap (λ (xs : List ℕ). value_then c.go_on.new.scanner.limits.depth None c.args.count all (λ g k. judged_of c.go_on.new.scanner.limits g k xs)) (take_rest bytes used) in
     let said = cut ∙ ap (λ (l : Limits). value_then l.depth None c.args.count all (λ g k. judged_of l g k (drop used bytes))) c.in_ok-go_on.ensures.limits ∙ ended_says limits rest bytes all used fed.0 fed.2 c.args.count in
-    subst (λ (j : Judged). IfOk c.take_value.result (λ (taken : Taken). AreTaken j c.take_value.new.value.items taken)) said c.take_value.ensures.taken
+    subst (λ (j : Judged). IfOk c.take_value.result (λ (taken : Parsed). AreTaken j c.take_value.new.value.items taken)) said c.take_value.ensures.taken
 
 pub returns-in-End-clause-waiting : goal.returns-in-End-clause-waiting
 returns-in-End-clause-waiting c =
@@ -67,7 +67,7 @@ returns-in-End-clause-waiting c =
 
 pub returns-in-End-clause-after : goal.returns-in-End-clause-after
 returns-in-End-clause-after c =
-    subst (λ (l : Limits). IfOk c.take_value.result (λ (taken : Taken). taken.fault ≡ None → IsBehind l (kept_of c.take_value.new.value.items (option_map (λ v. v.items) taken.rest)) c.take_value.new.scanner)) c.in_ok-go_on.ensures.limits c.take_value.ensures.after
+    subst (λ (l : Limits). IfOk c.take_value.result (λ (taken : Parsed). taken.fault ≡ None → IsBehind l (kept_of c.take_value.new.value.items (option_map (λ v. v.items) taken.rest)) c.take_value.new.scanner)) c.in_ok-go_on.ensures.limits c.take_value.ensures.after
 
 pub returns-in-Bad-clause-taken : goal.returns-in-Bad-clause-taken
 returns-in-Bad-clause-taken c =

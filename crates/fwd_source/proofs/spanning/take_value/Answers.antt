@@ -4,7 +4,7 @@ use Rattle.fwd_modes.specs.Requests.{Request, request_of}
 use Rattle.fwd_modes.specs.Requests.Reading.{Heartbeat, Asks, Fails}
 use Rattle.fwd_modes.specs.Readings as readings
 use Rattle.fwd_modes.specs.declared.request.Reading.{Reading}
-use Rattle.fwd_source.specs.declared.taking.Taken.{Taken}
+use Rattle.fwd_source.specs.declared.taking.Parsed.{Parsed}
 use Rattle.fwd_source.specs.Judged.{Judged, judged_of}
 use Rattle.fwd_source.specs.Hearing.{AreTaken, shown}
 use Rattle.fwd_source.proofs.Continuing.{asks_count, behind_it, asks_then, beat_then, fails_then, as_heard, taken_ahead, said_behind}
@@ -24,7 +24,7 @@ returns-in-Asks-clause-taken c =
     let then_said = said_behind limits c.limits.result same c.args.count value behind in
     let number = c.count_behind-number.ensures ∙ ap (behind_it limits.depth c.args.count) c.deref.ensures.value in
     let is : shown heard ≡ then_said = c.in_ok-requests.ensures.value ∙ ap (λ (k : ℕ). judged_of limits None k behind) number in
-    let taken : Taken = record { rest = Some rest; out = heard.pong; awaits = heard.awaits; fault = heard.fault } in
+    let taken : Parsed = record { rest = Some rest; out = heard.pong; awaits = heard.awaits; fault = heard.fault } in
     subst (λ (j : Judged). AreTaken j left taken) (sym said)
     (taken_ahead c.in-Asks.batch then_said left taken (as_heard then_said left heard rest is c.in_ok-from_slice.ensures.items))
 
@@ -94,7 +94,7 @@ returns-in-Heartbeat-clause-taken c =
     let then_said = said_behind limits c.limits.result same c.args.count value behind in
     let number = c.count_behind-number.ensures ∙ ap (behind_it limits.depth c.args.count) c.deref.ensures.value in
     let is : shown heard ≡ then_said = c.in_ok-requests.ensures.value ∙ ap (λ (k : ℕ). judged_of limits None k behind) number in
-    let taken : Taken = record { rest = Some rest; out = heard.pong; awaits = heard.awaits; fault = heard.fault } in
+    let taken : Parsed = record { rest = Some rest; out = heard.pong; awaits = heard.awaits; fault = heard.fault } in
     subst (λ (j : Judged). AreTaken j left taken) (sym said)
     (as_heard then_said left heard rest is c.in_ok-from_slice.ensures.items)
 

@@ -5,7 +5,7 @@ use Rattle.fwd_chunks.specs.declared.span.Span.{Span}
 use Rattle.fwd_chunks.specs.Spans.{AreCutBy}
 use Rattle.fwd_book.specs.History.{BookSetting, Entered, entered_as, request_at, has_run, are_fresh}
 use Rattle.fwd_book.specs.Live.{BookState, IsSound, found_for, live_enters, enters_if, ready_enters}
-use Rattle.fwd_book.specs.Notes.{Note, note_at, uses_in, found_at, used_more, AreOf, live_of, HasRoom}
+use Rattle.fwd_book.specs.ChunkRefs.{ChunkRef, note_at, uses_in, found_at, used_more, AreOf, live_of, HasRoom}
 use Rattle.fwd_book.specs.contracts.book.Book as book
 use Rattle.fwd_book.proofs.Keeping.{more-of, more-shown, cut-few, filter-few}
 use Rattle.fwd_book.proofs.Sound.{sound-enters}
@@ -29,8 +29,8 @@ use_all-requires-clause-few c = λ n.
 
 pub invariant_of-self : goal.invariant_of-self
 invariant_of-self c =
-    let notes : List (ℕ × Note) = c.self.inside.numbers.notes in
-    let new : List (ℕ × Note) = c.use_all.new.numbers.notes in
+    let notes : List (ℕ × ChunkRef) = c.self.inside.numbers.notes in
+    let new : List (ℕ × ChunkRef) = c.use_all.new.numbers.notes in
     let qs : List Entered = c.self.inside.requests.items in
     let spans : List Span = c.args.spans in
     let setting : BookSetting = record { run = c.self.inside.run; output = c.self.inside.output } in
@@ -54,8 +54,8 @@ invariant_of-self c =
 
 pub returns : goal.returns
 returns c =
-    let notes : List (ℕ × Note) = c.self.inside.numbers.notes in
-    let new : List (ℕ × Note) = c.use_all.new.numbers.notes in
+    let notes : List (ℕ × ChunkRef) = c.self.inside.numbers.notes in
+    let new : List (ℕ × ChunkRef) = c.use_all.new.numbers.notes in
     let qs : List Entered = c.self.inside.requests.items in
     let spans : List Span = c.args.spans in
     let setting : BookSetting = record { run = c.self.inside.run; output = c.self.inside.output } in

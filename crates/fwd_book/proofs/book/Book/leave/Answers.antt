@@ -2,11 +2,11 @@ use Rattle.std.proofs.Common.{arith, ◌≡◌, ℕ, Some, None, cond, List, ◌
 use Rattle.std.specs.Prelude.{not, map, ◌==◌}
 use Rattle.std.specs.List.{list_any}
 use Rattle.fwd_modes.specs.declared.origin.Origin.{Origin}
-use Rattle.fwd_session.specs.Evidence.{Evidence}
+use Rattle.fwd_session.specs.ServerAcks.{ServerAck}
 use Rattle.fwd_chunks.specs.Spans.{AreRising}
 use Rattle.fwd_book.specs.History.{BookSetting, Entered, is_origin, request_at}
 use Rattle.fwd_book.specs.Live.{BookState, IsSound, found_for, evidence_for, live_leaves}
-use Rattle.fwd_book.specs.Notes.{Note, note_at, found_at, used_less, AreOf, live_of}
+use Rattle.fwd_book.specs.ChunkRefs.{ChunkRef, note_at, found_at, used_less, AreOf, live_of}
 use Rattle.fwd_book.proofs.Keeping.{less-of, less-shown, among-one, none-leaves, room-more}
 use Rattle.fwd_book.proofs.Slotting.{any_none, filter_none}
 use Rattle.fwd_book.proofs.Right.{found_stands}
@@ -15,7 +15,7 @@ use Rattle.fwd_book.proofs.book.Book.leave.Goals as goal
 
 pub invariant_of-self : goal.invariant_of-self
 invariant_of-self c =
-    let notes : List (ℕ × Note) = c.self.inside.numbers.notes in
+    let notes : List (ℕ × ChunkRef) = c.self.inside.numbers.notes in
     let qs : List Entered = c.self.inside.requests.items in
     let setting : BookSetting = record { run = c.self.inside.run; output = c.self.inside.output } in
     let none : request_at qs c.args.origin ≡ None = sym c.in_default.ensures.taken in
@@ -27,7 +27,7 @@ invariant_of-self c =
 
 pub returns-in_default-clause-left : goal.returns-in_default-clause-left
 returns-in_default-clause-left c =
-    let notes : List (ℕ × Note) = c.self.inside.numbers.notes in
+    let notes : List (ℕ × ChunkRef) = c.self.inside.numbers.notes in
     let qs : List Entered = c.self.inside.requests.items in
     let setting : BookSetting = record { run = c.self.inside.run; output = c.self.inside.output } in
     let none : request_at qs c.args.origin ≡ None = sym c.in_default.ensures.taken in
@@ -43,13 +43,13 @@ leave_all-requires c =
 
 pub invariant_of-self-2 : goal.invariant_of-self-2
 invariant_of-self-2 c =
-    let notes : List (ℕ × Note) = c.self.inside.numbers.notes in
-    let new : List (ℕ × Note) = c.leave_all.new.numbers.notes in
+    let notes : List (ℕ × ChunkRef) = c.self.inside.numbers.notes in
+    let new : List (ℕ × ChunkRef) = c.leave_all.new.numbers.notes in
     let qs : List Entered = c.self.inside.requests.items in
     let o : Origin = c.args.origin in
     let q : Entered = c.in-Some.kept in
     let setting : BookSetting = record { run = c.self.inside.run; output = c.self.inside.output } in
-    let settled : List Evidence = found_for (found_at notes) qs in
+    let settled : List ServerAck = found_for (found_at notes) qs in
     let there : request_at qs o ≡ Some q = sym c.in-Some.ensures.taken in
     let less : (n : ℕ) → note_at n new ≡ cond (list_any (λ s. s.number == n) q.spans) (used_less (note_at n notes)) (note_at n notes) =
     λ n. c.leave_all.ensures.noted n ∙ ap (λ ss. cond (list_any (λ s. s.number == n) ss) (used_less (note_at n notes)) (note_at n notes)) c.spans.ensures in
@@ -64,13 +64,13 @@ invariant_of-self-2 c =
 
 pub returns-clause-left : goal.returns-clause-left
 returns-clause-left c =
-    let notes : List (ℕ × Note) = c.self.inside.numbers.notes in
-    let new : List (ℕ × Note) = c.leave_all.new.numbers.notes in
+    let notes : List (ℕ × ChunkRef) = c.self.inside.numbers.notes in
+    let new : List (ℕ × ChunkRef) = c.leave_all.new.numbers.notes in
     let qs : List Entered = c.self.inside.requests.items in
     let o : Origin = c.args.origin in
     let q : Entered = c.in-Some.kept in
     let setting : BookSetting = record { run = c.self.inside.run; output = c.self.inside.output } in
-    let settled : List Evidence = found_for (found_at notes) qs in
+    let settled : List ServerAck = found_for (found_at notes) qs in
     let there : request_at qs o ≡ Some q = sym c.in-Some.ensures.taken in
     let less : (n : ℕ) → note_at n new ≡ cond (list_any (λ s. s.number == n) q.spans) (used_less (note_at n notes)) (note_at n notes) =
     λ n. c.leave_all.ensures.noted n ∙ ap (λ ss. cond (list_any (λ s. s.number == n) ss) (used_less (note_at n notes)) (note_at n notes)) c.spans.ensures in

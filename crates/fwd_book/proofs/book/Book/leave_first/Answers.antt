@@ -2,11 +2,11 @@ use Rattle.std.proofs.Common.{◌≡◌, ℕ, Some, cond, List, ◌∷◌, [], f
 use Rattle.std.specs.Prelude.{not, map, ◌==◌}
 use Rattle.std.specs.List.{list_any}
 use Rattle.fwd_modes.specs.declared.origin.Origin.{Origin}
-use Rattle.fwd_session.specs.Evidence.{Evidence}
+use Rattle.fwd_session.specs.ServerAcks.{ServerAck}
 use Rattle.fwd_chunks.specs.Spans.{AreRising}
 use Rattle.fwd_book.specs.History.{BookSetting, Entered, is_of, is_origin, request_at}
 use Rattle.fwd_book.specs.Live.{BookState, IsSound, found_for, evidence_for, live_leaves}
-use Rattle.fwd_book.specs.Notes.{Note, note_at, found_at, used_less, AreOf, live_of}
+use Rattle.fwd_book.specs.ChunkRefs.{ChunkRef, note_at, found_at, used_less, AreOf, live_of}
 use Rattle.fwd_book.proofs.Keeping.{less-of, less-shown, among-one, room-more}
 use Rattle.fwd_book.proofs.Whose.{found-own}
 use Rattle.fwd_book.proofs.Right.{found_stands}
@@ -20,14 +20,14 @@ leave_all-requires c =
 
 pub invariant_of-self-2 : goal.invariant_of-self-2
 invariant_of-self-2 c =
-    let notes : List (ℕ × Note) = c.self.inside.numbers.notes in
-    let new : List (ℕ × Note) = c.leave_all.new.numbers.notes in
+    let notes : List (ℕ × ChunkRef) = c.self.inside.numbers.notes in
+    let new : List (ℕ × ChunkRef) = c.leave_all.new.numbers.notes in
     let qs : List Entered = c.self.inside.requests.items in
     let q : Entered = c.in_ok-kept.kept in
     let o : Origin = q.origin in
     let stands = found_stands (is_of c.args.conn) qs q (sym c.in_ok-kept.ensures.taken) in
     let setting : BookSetting = record { run = c.self.inside.run; output = c.self.inside.output } in
-    let settled : List Evidence = found_for (found_at notes) qs in
+    let settled : List ServerAck = found_for (found_at notes) qs in
     let there : request_at qs o ≡ Some q = found-own qs c.self.invariant.1.apart stands.place q stands.here in
     let less : (n : ℕ) → note_at n new ≡ cond (list_any (λ s. s.number == n) q.spans) (used_less (note_at n notes)) (note_at n notes) =
     λ n. c.leave_all.ensures.noted n ∙ ap (λ ss. cond (list_any (λ s. s.number == n) ss) (used_less (note_at n notes)) (note_at n notes)) c.spans.ensures in
@@ -42,14 +42,14 @@ invariant_of-self-2 c =
 
 pub returns-clause-left : goal.returns-clause-left
 returns-clause-left c =
-    let notes : List (ℕ × Note) = c.self.inside.numbers.notes in
-    let new : List (ℕ × Note) = c.leave_all.new.numbers.notes in
+    let notes : List (ℕ × ChunkRef) = c.self.inside.numbers.notes in
+    let new : List (ℕ × ChunkRef) = c.leave_all.new.numbers.notes in
     let qs : List Entered = c.self.inside.requests.items in
     let q : Entered = c.in_ok-kept.kept in
     let o : Origin = q.origin in
     let stands = found_stands (is_of c.args.conn) qs q (sym c.in_ok-kept.ensures.taken) in
     let setting : BookSetting = record { run = c.self.inside.run; output = c.self.inside.output } in
-    let settled : List Evidence = found_for (found_at notes) qs in
+    let settled : List ServerAck = found_for (found_at notes) qs in
     let there : request_at qs o ≡ Some q = found-own qs c.self.invariant.1.apart stands.place q stands.here in
     let less : (n : ℕ) → note_at n new ≡ cond (list_any (λ s. s.number == n) q.spans) (used_less (note_at n notes)) (note_at n notes) =
     λ n. c.leave_all.ensures.noted n ∙ ap (λ ss. cond (list_any (λ s. s.number == n) ss) (used_less (note_at n notes)) (note_at n notes)) c.spans.ensures in

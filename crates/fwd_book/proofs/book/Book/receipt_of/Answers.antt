@@ -1,19 +1,19 @@
 use Rattle.std.proofs.Common.{◌≡◌, ℕ, true, Some, List, ap, ◌∙◌}
 use Rattle.std.specs.List.{flat_map}
-use Rattle.fwd_session.specs.Evidence.{Evidence}
+use Rattle.fwd_session.specs.ServerAcks.{ServerAck}
 use Rattle.fwd_book.specs.History.{BookSetting, Entered, is_origin, is_settled, request_at}
 use Rattle.fwd_book.specs.Receipts.{shown_by, part_of, parts_of, receipt_of}
 use Rattle.fwd_book.specs.Live.{BookState, found_for}
-use Rattle.fwd_book.specs.Notes.{Note, found_at, live_of}
+use Rattle.fwd_book.specs.ChunkRefs.{ChunkRef, found_at, live_of}
 use Rattle.fwd_book.proofs.Keeping.{parts-alike-noted}
 use Rattle.fwd_book.proofs.Right.{found_stands, good}
 use Rattle.fwd_book.proofs.book.Book.receipt_of.Goals as goal
 
 pub new-requires : goal.new-requires
 new-requires c =
-    let notes : List (ℕ × Note) = c.self.inside.numbers.notes in
+    let notes : List (ℕ × ChunkRef) = c.self.inside.numbers.notes in
     let qs : List Entered = c.self.inside.requests.items in
-    let settled : List Evidence = found_for (found_at notes) qs in
+    let settled : List ServerAck = found_for (found_at notes) qs in
     let q : Entered = c.args.kept.now in
     let parts : c.in_ok-parts.parts.items ≡ parts_of settled q.spans =
     c.in_ok-parts.ensures ∙ ap (flat_map (λ s. part_of (found_at notes s.number) s)) c.spans.ensures ∙ parts-alike-noted notes qs q.spans c.self.invariant.0 in
@@ -25,9 +25,9 @@ new-requires c =
 
 pub returns : goal.returns
 returns c =
-    let notes : List (ℕ × Note) = c.self.inside.numbers.notes in
+    let notes : List (ℕ × ChunkRef) = c.self.inside.numbers.notes in
     let qs : List Entered = c.self.inside.requests.items in
-    let settled : List Evidence = found_for (found_at notes) qs in
+    let settled : List ServerAck = found_for (found_at notes) qs in
     let q : Entered = c.args.kept.now in
     let parts : c.in_ok-parts.parts.items ≡ parts_of settled q.spans =
     c.in_ok-parts.ensures ∙ ap (flat_map (λ s. part_of (found_at notes s.number) s)) c.spans.ensures ∙ parts-alike-noted notes qs q.spans c.self.invariant.0 in

@@ -2,19 +2,19 @@ use Rattle.std.proofs.Common.{arith, ◌≡◌, ℕ, Some, List, ◌++◌, ◌�
 use Rattle.std.specs.Prelude.{slice_get}
 use Rattle.std.specs.Arc.{arc_value}
 use Rattle.fwd_modes.specs.Acks.{ack_name}
-use Rattle.fwd_session.specs.Evidence.{Evidence}
+use Rattle.fwd_session.specs.ServerAcks.{ServerAck}
 use Rattle.fwd_book.specs.History.{BookSetting, Entered, name_at}
 use Rattle.fwd_book.specs.Live.{BookState, IsOf, IsSound, evidence_for, found_for, live_settles}
-use Rattle.fwd_book.specs.Notes.{Note, found_at, live_of}
+use Rattle.fwd_book.specs.ChunkRefs.{ChunkRef, found_at, live_of}
 use Rattle.fwd_book.proofs.Keeping.{put-of, put-shown, room-more}
 use Rattle.fwd_book.proofs.Sound.{sound-settles}
 use Rattle.fwd_book.proofs.book.Book.settle.Goals as goal
 
 pub invariant_of-self : goal.invariant_of-self
 invariant_of-self c =
-    let e : Evidence = arc_value c.args.acked in
-    let notes : List (ℕ × Note) = c.self.inside.numbers.notes in
-    let new : List (ℕ × Note) = c.put.new.self.notes in
+    let e : ServerAck = arc_value c.args.acked in
+    let notes : List (ℕ × ChunkRef) = c.self.inside.numbers.notes in
+    let new : List (ℕ × ChunkRef) = c.put.new.self.notes in
     let qs : List Entered = c.self.inside.requests.items in
     let setting : BookSetting = record { run = c.self.inside.run; output = c.self.inside.output } in
     let of = c.self.invariant.0 in
@@ -28,13 +28,13 @@ invariant_of-self c =
     )
 
 pub returns-clause-count : goal.returns-clause-count
-returns-clause-count c = c.count-count.ensures ∙ ap (λ (x : Evidence). length x.entries) c.deref.ensures
+returns-clause-count c = c.count-count.ensures ∙ ap (λ (x : ServerAck). length x.entries) c.deref.ensures
 
 pub returns-clause-settled : goal.returns-clause-settled
 returns-clause-settled c =
-    let e : Evidence = arc_value c.args.acked in
-    let notes : List (ℕ × Note) = c.self.inside.numbers.notes in
-    let new : List (ℕ × Note) = c.put.new.self.notes in
+    let e : ServerAck = arc_value c.args.acked in
+    let notes : List (ℕ × ChunkRef) = c.self.inside.numbers.notes in
+    let new : List (ℕ × ChunkRef) = c.put.new.self.notes in
     let qs : List Entered = c.self.inside.requests.items in
     let setting : BookSetting = record { run = c.self.inside.run; output = c.self.inside.output } in
     let shown : found_for (found_at new) qs ≡ evidence_for qs (found_for (found_at notes) qs ++ e ∷ []) = put-shown notes new qs e c.self.invariant.0 c.put.ensures.noted in

@@ -3,13 +3,13 @@ use Rattle.std.specs.Prelude.{is_some}
 use Rattle.std.specs.List.{list_all}
 use Rattle.fwd_book.specs.History.{Entered, is_settled, request_at}
 use Rattle.fwd_book.specs.Live.{BookState, found_for, settled_if, live_is_settled}
-use Rattle.fwd_book.specs.Notes.{Note, found_at}
+use Rattle.fwd_book.specs.ChunkRefs.{ChunkRef, found_at}
 use Rattle.fwd_book.proofs.Keeping.{settled-alike}
 use Rattle.fwd_book.proofs.book.Book.settled.Goals as goal
 
 pub returns-then-has_all-clause-some : goal.returns-then-has_all-clause-some
 returns-then-has_all-clause-some c =
-    let notes : List (ℕ × Note) = c.self.inside.numbers.notes in
+    let notes : List (ℕ × ChunkRef) = c.self.inside.numbers.notes in
     let qs : List Entered = c.self.inside.requests.items in
     let q : Entered = c.in_ok-kept.kept.now in
     let all : c.has_all.result ≡ is_settled (found_for (found_at notes) qs) q =
@@ -20,7 +20,7 @@ returns-then-has_all-clause-some c =
 
 pub returns-else-has_all-clause-none : goal.returns-else-has_all-clause-none
 returns-else-has_all-clause-none c =
-    let notes : List (ℕ × Note) = c.self.inside.numbers.notes in
+    let notes : List (ℕ × ChunkRef) = c.self.inside.numbers.notes in
     let qs : List Entered = c.self.inside.requests.items in
     let q : Entered = c.in_ok-kept.kept.now in
     let all : c.has_all.result ≡ is_settled (found_for (found_at notes) qs) q =

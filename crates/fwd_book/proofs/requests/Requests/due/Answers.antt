@@ -6,7 +6,7 @@ use Rattle.fwd_book.specs.Links.{passing_at}
 use Rattle.std.proofs.Common.{Bool}
 use Rattle.std.specs.Prelude.{◌&&◌}
 use Rattle.std.specs.List.{flat_map}
-use Rattle.fwd_book.specs.Notes.{are_found}
+use Rattle.fwd_book.specs.ChunkRefs.{are_found}
 use Rattle.fwd_book.proofs.Leading.{order-passing, order-few}
 use Rattle.fwd_book.proofs.requests.Requests.due.Goals as goal
 

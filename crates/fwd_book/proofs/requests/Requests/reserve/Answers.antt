@@ -1,7 +1,7 @@
 use Rattle.std.proofs.Common.{sym, subst, ℕ, List}
 use Rattle.slab.specs.Slab.{Slab}
-use Rattle.fwd_book.specs.declared.chains.Kept.{Kept}
-use Rattle.fwd_book.specs.declared.chains.Ends.{Ends}
+use Rattle.fwd_book.specs.declared.connection_index.Kept.{Kept}
+use Rattle.fwd_book.specs.declared.connection_index.Ends.{Ends}
 use Rattle.fwd_book.specs.Slots.{Lead, held_at, order_by}
 use Rattle.fwd_book.specs.Links.{link_at, AreChained}
 use Rattle.fwd_book.proofs.requests.Requests.reserve.Goals as goal

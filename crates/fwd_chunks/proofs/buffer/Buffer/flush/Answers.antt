@@ -1,5 +1,5 @@
 use Rattle.std.proofs.Common.{max, refl}
-use Rattle.fwd_chunks.specs.declared.stage.Stage.TheVariants.{Closed}
+use Rattle.fwd_chunks.specs.declared.chunk_state.ChunkState.TheVariants.{Closed}
 use Rattle.fwd_chunks.specs.Live.{staged, is_due}
 use Rattle.fwd_chunks.proofs.Opened.{newest-changed}
 use Rattle.fwd_chunks.proofs.Counted.{counted-changed}

@@ -1,5 +1,5 @@
 use Rattle.std.proofs.Common.{refl}
-use Rattle.fwd_chunks.specs.declared.stage.Stage.TheVariants.{Taken}
+use Rattle.fwd_chunks.specs.declared.chunk_state.ChunkState.TheVariants.{Taken}
 use Rattle.fwd_chunks.specs.Live.{staged, is_at}
 use Rattle.fwd_chunks.proofs.Opened.{newest-changed}
 use Rattle.fwd_chunks.proofs.Counted.{counted-changed}

@@ -7,8 +7,8 @@ use Rattle.fwd_chunks.proofs.Sounding.{found-all}
 use Rattle.fwd_chunks.proofs.buffer.Buffer.take.Goals as goal
 use Rattle.fwd_chunks.specs.contracts.buffer.Buffer.{the_view}
 
-pub load_of-requires : goal.load_of-requires
-load_of-requires c =
+pub carried_chunk_of-requires : goal.carried_chunk_of-requires
+carried_chunk_of-requires c =
     let v = the_view c.self.inside in
     let given : live_given (live_looks v c.args.now) ≡ Some c.in-Some.chunk.now =
     (λ i. find (λ d. is_closed d.stage && live_is_over (sym c.self.invariant.waits i).wait (sym c.self.invariant.waits i).max d.losses (sym c.max-moment.ensures i)) c.self.inside.slots.chunks) ∙ sym c.first_free.ensures ∙ ap (option_map (λ p. p.0.now)) c.in-Some.is in

@@ -4,8 +4,8 @@ use Rattle.std.specs.Prelude.{slice_get, slice_set, option_map, IfSome, IfNone}
 use Rattle.std.specs.Arc.{arc_value}
 use Rattle.fwd_chunks.specs.Live.{live_settles}
 use Rattle.fwd_session.specs.declared.acked.Acked.{Acked}
-use Rattle.fwd_chunks.specs.History.{Load}
-use Rattle.fwd_session.specs.Evidence.{IsEvidence}
+use Rattle.fwd_chunks.specs.History.{CarriedChunk}
+use Rattle.fwd_session.specs.ServerAcks.{IsServerAck}
 use Rattle.fwd_session.specs.History.{first_in}
 use Rattle.fwd_model.specs.declared.answer.Answer.TheVariants as answer
 use Rattle.fwd_model.specs.Outcome.{answer_of, state_of}
@@ -34,7 +34,7 @@ invariant_of-self-2 c =
     let left = rests ∙ settled_worker x a s in
     let carried = held-carries c.self.inside.output.buffer workers.items place x (worker_settled x) a c.self.invariant here leaves in
     let k = arc_value {X = Acked} {Z = Global} c.in-Some.acked in
-    let ev : IsEvidence k a = subst (λ o. IfSome o (λ p. IsEvidence (arc_value {X = Acked} {Z = Global} p.0) p.1)) c.in-Some.is c.acked.ensures.evidence in
+    let ev : IsServerAck k a = subst (λ o. IfSome o (λ p. IsServerAck (arc_value {X = Acked} {Z = Global} p.0) p.1)) c.in-Some.is c.acked.ensures.evidence in
     subst (λ d. AreHeld d (slice_set workers.items place c.acked.new.self)) (sym (ap (λ o. o.buffer) (c.settle-entries.ensures.here carried) ∙ ap (live_settles c.self.inside.output.buffer) ev.number))
     (subst (λ z. AreHeld (live_settles c.self.inside.output.buffer a.number) (slice_set workers.items place z)) (sym rests)
     (held-settles c.self.inside.output.buffer workers.items place x (worker_settled x) a c.self.invariant here leaves))
@@ -54,7 +54,7 @@ returns-clause-answer c =
     let leaves = settled_leaves x a s in
     let left = rests ∙ settled_worker x a s in
     let carried = held-carries c.self.inside.output.buffer workers.items place x (worker_settled x) a c.self.invariant here leaves in
-    ap answer.Settled (c.settle-entries.ensures.count carried ∙ ap (λ (d : Load). live_count_at d.number c.self.inside.output) (sym s.chunk))
+    ap answer.Settled (c.settle-entries.ensures.count carried ∙ ap (λ (d : CarriedChunk). live_count_at d.number c.self.inside.output) (sym s.chunk))
     ∙ sym (ap answer_of (settle_is _ c.args.worker x s.session s.accepted here_w s.is (ap first_in s.acks)))
     ∙ ap (λ l. answer_of (steps.settle lives l c.args.worker)) c.self.view_is
 

@@ -1,7 +1,7 @@
 use Rattle.std.proofs.Common.{◌≡◌, true, false, sym, ap, subst, ◌∙◌}
 use Rattle.std.specs.Arc.{arc_value}
 use Rattle.fwd_chunks.specs.Live.{IsCarried, live_settles}
-use Rattle.fwd_session.specs.Evidence.{Evidence}
+use Rattle.fwd_session.specs.ServerAcks.{ServerAck}
 use Rattle.fwd_book.specs.Live.{BookState}
 use Rattle.fwd_core.specs.declared.output.OutputState.TheInside.{Inside}
 use Rattle.fwd_failover.specs.Live.{live_settled}
@@ -29,7 +29,7 @@ invariant_of-self c =
           let is : IsCarried o.buffer c.args.carried = c.settle.ensures.had.0 w.if-settle.true in
           let left = ap (λ (x : Inside). x.buffer) w.self-inside-is ∙ c.settle.ensures.here is in
           let told = ap (λ (x : Inside). x.book.live) w.self-inside-is ∙ ap (λ (x : BookState). x.live) w.settle-then-settle.ensures.settled in
-          let lost = ap (λ (x : Inside). x.servers) w.self-inside-is ∙ w.settled.ensures.after ∙ ap (live_settled o.servers) (c.server-server.ensures ∙ ap (λ (x : Evidence). x.server) c.deref.ensures) in (
+          let lost = ap (λ (x : Inside). x.servers) w.self-inside-is ∙ w.settled.ensures.after ∙ ap (live_settled o.servers) (c.server-server.ensures ∙ ap (λ (x : ServerAck). x.server) c.deref.ensures) in (
             subst (λ b. IsCoupled b c.if-settle.self-inside.book.live) (sym left)
                 (subst (IsCoupled (live_settles o.buffer c.args.carried.number)) (sym told)
                 (settles-coupled o.buffer k e c.args.carried c.is_sound.ensures is c.requires.number own.0)),

@@ -1,9 +1,9 @@
 use Rattle.std.proofs.Common.{arith, ◌≡◌, ◌+◌, ℕ, List, length, sum, drop, sym, ap, ◌∙◌}
 use Rattle.std.proofs.lemmas.List.{take_rest, length-drop}
-use Rattle.fwd_msgpack.specs.declared.stage.Stage.{Stage}
+use Rattle.fwd_msgpack.specs.declared.scan_state.ScanState.{ScanState}
 use Rattle.fwd_msgpack.specs.Scans.{Going, InHead}
 use Rattle.fwd_msgpack.specs.Scanners.{Standing, onward}
-use Rattle.fwd_msgpack.specs.Stages.{state_shown, in_item}
+use Rattle.fwd_msgpack.specs.ScanStates.{state_shown, in_item}
 use Rattle.fwd_msgpack.proofs.Pieces.{stands}
 use Rattle.fwd_msgpack.proofs.Torn.{head_stage, stays, torn_short, piece_scanned, some_bytes}
 use Rattle.fwd_msgpack.proofs.scanner.Scanner.go_on.Goals as goal
@@ -39,7 +39,7 @@ returns-in-InHead c =
     let some = some_bytes (length bytes) (sym c.if-is_empty.false ∙ c.is_empty.ensures) in
     let kept : c.keep.new.self ≡ drop at bytes = c.keep.ensures ∙ take_rest bytes at in
     let all : s.used + at + length (drop at bytes) ≡ s.used + length bytes = omega (arith, length-drop at bytes, c.in-InHead.ensures.within.0) in
-    stands s.limits _ _ (ap (λ (st : Stage). state_shown (s.used + at) stack c.keep.new.self st) c.in-Head.is
+    stands s.limits _ _ (ap (λ (st : ScanState). state_shown (s.used + at) stack c.keep.new.self st) c.in-Head.is
     ∙ ap (λ (xs : List ℕ). Going (s.used + at + length xs) stack (InHead xs)) kept
     ∙ ap (λ (n : ℕ). Going n stack (InHead (drop at bytes))) all)
     ∙ piece_scanned s.limits s.used s.stack s.front bytes s.stage c.args.self.now _ c.in-Head.is c.self.view_is (c.requires some) (omega arith) c.in-InHead.ensures.state

@@ -1,6 +1,6 @@
 use Rattle.std.proofs.Common.{arith, sum, ap, ◌∙◌}
 use Rattle.fwd_msgpack.specs.Scanners.{Standing}
-use Rattle.fwd_msgpack.specs.Stages.{in_head}
+use Rattle.fwd_msgpack.specs.ScanStates.{in_head}
 use Rattle.fwd_msgpack.proofs.Torn.{head_stage, in_head_stage, torn_short}
 use Rattle.fwd_msgpack.proofs.scanner.Scanner.hear.Goals as goal
 

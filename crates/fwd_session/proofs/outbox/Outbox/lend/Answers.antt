@@ -1,7 +1,7 @@
 use Rattle.std.proofs.Common.{◌≡◌, ◌+◌, ◌<◌, ◌++◌, List, ℕ, length, take, drop, ap, subst, sym, ◌∙◌, arith}
 use Rattle.std.proofs.lemmas.Bool.Decides.{nat_tests}
 use Rattle.std.specs.List.{concat}
-use Rattle.fwd_chunks.specs.declared.pieces.TheConstants.{PIECE_LIMIT}
+use Rattle.fwd_chunks.specs.declared.write_slices.TheConstants.{PIECE_LIMIT}
 use Rattle.fwd_chunks.specs.Lending.{IsLent}
 use Rattle.fwd_chunks.proofs.Lending.{lent_both, lent_full}
 use Rattle.fwd_session.proofs.Gathering.{next_frame, frames_behind}

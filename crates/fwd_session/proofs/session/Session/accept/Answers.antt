@@ -3,7 +3,7 @@ use Rattle.std.specs.Prelude.{map, remove, slice_get}
 use Rattle.std.specs.List.{AllByRecursion}
 use Rattle.std.specs.Arc.{arc_value}
 use Rattle.std.proofs.lemmas.Option.{same_Some}
-use Rattle.fwd_session.specs.Evidence.{IsBacked}
+use Rattle.fwd_session.specs.ServerAcks.{IsBacked}
 use Rattle.fwd_session.specs.Live.{LiveSession, live_chunks}
 use Rattle.fwd_session.specs.Flights.{accepted_of, live_pending, loaded_of}
 use Rattle.fwd_session.proofs.Carrying.{accepted_push, backed_push, fewer, handed_place, loaded_chunks, loaded_remove, pair_in, pairs_length, pending_chunk}

@@ -2,7 +2,7 @@ use Rattle.std.proofs.Common.{rules, ◌≡◌, ◌+◌, [], ◌∷◌, ◌++◌
 use Rattle.std.specs.List.{concat}
 use Rattle.std.specs.Arc.{arc_value}
 use Rattle.std.proofs.lemmas.Bool.{false≢true}
-use Rattle.fwd_session.specs.Evidence.{frame_of}
+use Rattle.fwd_session.specs.ServerAcks.{frame_of}
 use Rattle.fwd_session.specs.History.{is_done}
 use Rattle.fwd_session.specs.Live.{LiveSession}
 use Rattle.fwd_session.specs.Flights.{loaded_of}

@@ -2,7 +2,7 @@ use Rattle.std.proofs.Common.{ℕ, List, [], ◌∷◌, ◌++◌, ◌≡◌, ◌
 use Rattle.std.specs.Prelude.{map}
 use Rattle.std.specs.List.{AllByRecursion}
 use Rattle.std.proofs.lemmas.List.{map-append}
-use Rattle.fwd_chunks.specs.History.{Load}
+use Rattle.fwd_chunks.specs.History.{CarriedChunk}
 use Rattle.fwd_session.specs.Flights.{pending_at, pending_of}
 use Rattle.fwd_session.proofs.Lists.{all_append}
 use Rattle.fwd_session.proofs.Firsts.{take_next, take_whole}
@@ -11,7 +11,7 @@ use Rattle.fwd_session.proofs.unacked.Unacked.of.Goals as goal
 
 pub loop-place-preserved : goal.loop-place-preserved
 loop-place-preserved c =
-    let chunks : List Load = c.args.chunks.now in
+    let chunks : List CarriedChunk = c.args.chunks.now in
     let handed = c.args.handed_on in
     let l = c.loop-place in
     let left : List ℕ = l.left.items in
@@ -29,7 +29,7 @@ loop-place-preserved c =
 
 pub returns : goal.returns
 returns c =
-    let chunks : List Load = c.args.chunks.now in
+    let chunks : List CarriedChunk = c.args.chunks.now in
     let handed = c.args.handed_on in
     c.loop-place.invariant.same
     ∙ take_whole (pending_of handed chunks) c.loop-place.place (omega (arith, pending_length handed chunks, c.loop-place-test.false))

@@ -9,4 +9,4 @@ returns-then-is_err-clause-kept c =
     (ap (λ s. s.lists) c.self.view_is) (ap (λ s. s.due) c.self.view_is)
     (ap (flat_map (λ block. block.items)) c.reserve.ensures.items
     ∙ ap (λ s. s.late) c.self.view_is)
-    (ap (λ s. s.stirred) c.self.view_is) (ap (λ s. s.all_due) c.self.view_is)
+    (ap (λ s. s.late_due) c.self.view_is) (ap (λ s. s.all_due) c.self.view_is)

@@ -29,7 +29,7 @@ use denote.Triple.Spec.{Meets, triple_of}
 use denote.Triple.Table.{entered}
 use denote.Triple.Walked.{says, Stays, stay_dropped, walk_of, ends_at, Goes-dropped, walk_Meets}
 use Rattle.fwd_workers.specs.contracts.calls.Calls.{the_row}
-use Rattle.fwd_chunks.specs.contracts.pieces.Pieces.{the_row as the_pieces}
+use Rattle.fwd_chunks.specs.contracts.write_slices.WriteSlices.{the_row as the_pieces}
 use Rattle.std.specs.List.{concat}
 use Rattle.std.specs.contracts.result.Result.{the_row as the_result}
 use Rattle.fwd_workers.specs.contracts.link.LinkFault.{the_row as the_fault}

@@ -7,4 +7,4 @@ pub returns-in-Loaded-clause-most : goal.returns-in-Loaded-clause-most
 returns-in-Loaded-clause-most g c =
     subst (λ at. g.S.Tally.count c.settle.new.seat
     ≤ g.S.Tally.count c.args.seat.now + g.S.Tally.kept (entries_in (accepted_at at))) (sym c.in-Loaded.is)
-    (omega (arith, c.settle.ensures.most, next-most g.S.Tally.kept g.met.S.Tally.kept_adds c.in-Loaded.line.session))
+    (omega (arith, c.settle.ensures.most, next-most g.S.Tally.kept g.met.S.Tally.kept_adds c.in-Loaded.upstream.session))

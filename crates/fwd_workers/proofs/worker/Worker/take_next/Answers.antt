@@ -3,8 +3,8 @@ use Rattle.std.specs.Prelude.{is_some, option_map}
 use Rattle.std.specs.Arc.{arc_value}
 use Rattle.fwd_handshake.specs.Draws.{hex_drawn}
 use Rattle.fwd_session.specs.History.{is_done}
-use Rattle.fwd_workers.specs.declared.ending.Ending.{Ending}
-use Rattle.fwd_workers.specs.declared.line.Stage.TheVariants as stage
+use Rattle.fwd_workers.specs.declared.ending.EndReason.{EndReason}
+use Rattle.fwd_workers.specs.declared.upstream.WorkerState.TheVariants as stage
 use Rattle.fwd_workers.specs.Endings.{idle_ending, news_of}
 use Rattle.fwd_workers.specs.Working.{HasTakenNext, IsTended, setup_by}
 use Rattle.fwd_workers.proofs.Taking.{by-ending, goes-on}
@@ -13,72 +13,72 @@ use Rattle.fwd_workers.proofs.worker.Worker.take_next.Goals as goal
 pub returns-then-is_some-clause-taken : goal.returns-then-is_some-clause-taken
 returns-then-is_some-clause-taken g c none =
     let turn = c.serve_free.ensures.turn none in
-    let idle : Ending → Ending =
-    λ why. idle_ending why (is_done c.serve_free.result.line.session.handshake) in
-    by-ending c.serve_free.result.line.ending
+    let idle : EndReason → EndReason =
+    λ why. idle_ending why (is_done c.serve_free.result.upstream.session.handshake) in
+    by-ending c.serve_free.result.upstream.ending
     (λ on.
-    let same = c.excuse-free.ensures.ending ∙ ap (option_map idle) on in
-    subst (λ at. HasTakenNext at c.stand.new.self.news c.args.free.line.session
-    c.args.round.now.now (g.H.Line.Link.calls c.args.free.line.link)
+    let same = c.allow_close-free.ensures.ending ∙ ap (option_map idle) on in
+    subst (λ at. HasTakenNext at c.stand.new.self.news c.args.free.upstream.session
+    c.args.context.now.now (g.H.Line.Link.calls c.args.free.upstream.link)
     (setup_by (arc_value c.args.self.now.login) (hex_drawn 0 4 c.args.self.now.rng)
-    c.args.self.now.acks c.args.round.now.now))
+    c.args.self.now.acks c.args.context.now.now))
     (sym (c.stand.ensures.stands same).0)
-    (goes-on c.args.free.line.session c.serve_free.result.line.session
-    c.excuse-free.result.line.session c.args.round.now.now
-    (g.H.Line.Link.calls c.args.free.line.link)
-    (g.H.Line.Link.calls c.serve_free.result.line.link)
-    c.serve_free.result.line.ending c.excuse-free.result.line.ending idle turn
-    c.excuse-free.ensures.session c.excuse-free.ensures.ending (ap is_some same)))
+    (goes-on c.args.free.upstream.session c.serve_free.result.upstream.session
+    c.allow_close-free.result.upstream.session c.args.context.now.now
+    (g.H.Line.Link.calls c.args.free.upstream.link)
+    (g.H.Line.Link.calls c.serve_free.result.upstream.link)
+    c.serve_free.result.upstream.ending c.allow_close-free.result.upstream.ending idle turn
+    c.allow_close-free.ensures.session c.allow_close-free.ensures.ending (ap is_some same)))
     (λ why over.
-    let same = c.excuse-free.ensures.ending ∙ ap (option_map idle) over in
+    let same = c.allow_close-free.ensures.ending ∙ ap (option_map idle) over in
     let ends = subst (λ o. IfSome o (λ w. (c.stand.result ≡ stage.Idle)
     × (c.stand.new.self.news
-    ≡ news_of w c.excuse-free.result.line.session.setup.server 0)))
+    ≡ news_of w c.allow_close-free.result.upstream.session.setup.server 0)))
     same c.stand.ensures.ends in
-    subst (λ at. HasTakenNext at c.stand.new.self.news c.args.free.line.session
-    c.args.round.now.now (g.H.Line.Link.calls c.args.free.line.link)
+    subst (λ at. HasTakenNext at c.stand.new.self.news c.args.free.upstream.session
+    c.args.context.now.now (g.H.Line.Link.calls c.args.free.upstream.link)
     (setup_by (arc_value c.args.self.now.login) (hex_drawn 0 4 c.args.self.now.rng)
-    c.args.self.now.acks c.args.round.now.now))
+    c.args.self.now.acks c.args.context.now.now))
     (sym ends.0) (
-      c.serve_free.result.line.session,
-      g.H.Line.Link.calls c.serve_free.result.line.link,
+      c.serve_free.result.upstream.session,
+      g.H.Line.Link.calls c.serve_free.result.upstream.link,
       why,
-      subst (λ w. IsTended c.args.free.line.session c.serve_free.result.line.session
-          c.args.round.now.now (g.H.Line.Link.calls c.args.free.line.link)
-          (g.H.Line.Link.calls c.serve_free.result.line.link) w) over turn,
-      ends.1 ∙ ap (λ t. news_of (idle why) t.setup.server 0) c.excuse-free.ensures.session,
+      subst (λ w. IsTended c.args.free.upstream.session c.serve_free.result.upstream.session
+          c.args.context.now.now (g.H.Line.Link.calls c.args.free.upstream.link)
+          (g.H.Line.Link.calls c.serve_free.result.upstream.link) w) over turn,
+      ends.1 ∙ ap (λ t. news_of (idle why) t.setup.server 0) c.allow_close-free.ensures.session,
     ))
 
 pub returns-in_default-clause-taken : goal.returns-in_default-clause-taken
 returns-in_default-clause-taken g c none =
-    goes-on c.args.free.line.session c.serve_free.result.line.session
-    c.excuse-free.result.line.session c.args.round.now.now
-    (g.H.Line.Link.calls c.args.free.line.link)
-    (g.H.Line.Link.calls c.serve_free.result.line.link)
-    c.serve_free.result.line.ending c.excuse-free.result.line.ending
-    (λ why. idle_ending why (is_done c.serve_free.result.line.session.handshake))
-    (c.serve_free.ensures.turn none) c.excuse-free.ensures.session c.excuse-free.ensures.ending
+    goes-on c.args.free.upstream.session c.serve_free.result.upstream.session
+    c.allow_close-free.result.upstream.session c.args.context.now.now
+    (g.H.Line.Link.calls c.args.free.upstream.link)
+    (g.H.Line.Link.calls c.serve_free.result.upstream.link)
+    c.serve_free.result.upstream.ending c.allow_close-free.result.upstream.ending
+    (λ why. idle_ending why (is_done c.serve_free.result.upstream.session.handshake))
+    (c.serve_free.ensures.turn none) c.allow_close-free.ensures.session c.allow_close-free.ensures.ending
     (sym c.is_some.ensures ∙ c.if-is_some.false)
 
 pub returns-in_default-go_over-clause-taken : goal.returns-in_default-go_over-clause-taken
 returns-in_default-go_over-clause-taken g c none =
-    let on = goes-on c.args.free.line.session c.serve_free.result.line.session
-    c.excuse-free.result.line.session c.args.round.now.now
-    (g.H.Line.Link.calls c.args.free.line.link)
-    (g.H.Line.Link.calls c.serve_free.result.line.link)
-    c.serve_free.result.line.ending c.excuse-free.result.line.ending
-    (λ why. idle_ending why (is_done c.serve_free.result.line.session.handshake))
-    (c.serve_free.ensures.turn none) c.excuse-free.ensures.session
-    c.excuse-free.ensures.ending (sym c.is_some.ensures ∙ c.if-is_some.false) in
+    let on = goes-on c.args.free.upstream.session c.serve_free.result.upstream.session
+    c.allow_close-free.result.upstream.session c.args.context.now.now
+    (g.H.Line.Link.calls c.args.free.upstream.link)
+    (g.H.Line.Link.calls c.serve_free.result.upstream.link)
+    c.serve_free.result.upstream.ending c.allow_close-free.result.upstream.ending
+    (λ why. idle_ending why (is_done c.serve_free.result.upstream.session.handshake))
+    (c.serve_free.ensures.turn none) c.allow_close-free.ensures.session
+    c.allow_close-free.ensures.ending (sym c.is_some.ensures ∙ c.if-is_some.false) in
     (on.0, sym c.is_ready.ensures ∙ c.if-not-is_ready.false, inl on.1)
 
 pub returns-then-outlook-clause-taken : goal.returns-then-outlook-clause-taken
 returns-then-outlook-clause-taken g c none =
-    goes-on c.args.free.line.session c.serve_free.result.line.session
-    c.excuse-free.result.line.session c.args.round.now.now
-    (g.H.Line.Link.calls c.args.free.line.link)
-    (g.H.Line.Link.calls c.serve_free.result.line.link)
-    c.serve_free.result.line.ending c.excuse-free.result.line.ending
-    (λ why. idle_ending why (is_done c.serve_free.result.line.session.handshake))
-    (c.serve_free.ensures.turn none) c.excuse-free.ensures.session c.excuse-free.ensures.ending
+    goes-on c.args.free.upstream.session c.serve_free.result.upstream.session
+    c.allow_close-free.result.upstream.session c.args.context.now.now
+    (g.H.Line.Link.calls c.args.free.upstream.link)
+    (g.H.Line.Link.calls c.serve_free.result.upstream.link)
+    c.serve_free.result.upstream.ending c.allow_close-free.result.upstream.ending
+    (λ why. idle_ending why (is_done c.serve_free.result.upstream.session.handshake))
+    (c.serve_free.ensures.turn none) c.allow_close-free.ensures.session c.allow_close-free.ensures.ending
     (sym c.is_some.ensures ∙ c.if-is_some.false)

@@ -1,0 +1,178 @@
+//! The numbers that a book's requests have, with what was acknowledged under them.
+
+ghost use Rattle.std.specs.Prelude.{
+  ◌≡◌,
+  ◌<◌,
+  ◌≤◌,
+  ◌+◌,
+  ◌^◌,
+  ◌==◌,
+  ℕ,
+  [],
+  Some,
+  is_some,
+  option_map,
+  option_copied,
+  if◌then◌else◌,
+  IfOk,
+  OnOk,
+};
+ghost use Rattle.std.specs.List.{list_all, flat_map};
+ghost use Rattle.std.specs.Arc.{arc_value};
+ghost use Rattle.fwd_book.specs.Receipts.{part_of};
+ghost use Rattle.fwd_book.specs.ChunkRefs.{note_at, uses_in, found_at, used_more, used_less, put_in};
+
+use crate::receipt::AckedRange;
+use fwd_chunks::Span;
+use fwd_session::Acked;
+use indexmap::IndexMap;
+use std::alloc::{AllocError, Global};
+use std::marker::Model;
+use std::sync::Arc;
+
+/// How many requests have a number, and the chunk once it is acknowledged.
+#[derive(Drop)]
+struct ChunkRef {
+    uses: usize,
+    acked: Option<Arc<Acked>>,
+}
+
+impl Model for ChunkRef {
+    ghost use Rattle.std.specs.Option.{option_map};
+    ghost use Rattle.std.specs.Arc.{arc_value};
+    ghost use Rattle.fwd_book.specs.ChunkRefs.{ChunkRef};
+
+    ghost Value = { ChunkRef };
+
+    ghost view = { λ n. record { uses = n.uses; found = option_map arc_value n.acked } };
+}
+
+/// Notes by number. A chunk that was acknowledged is kept once, however many requests have it.
+#[derive(Drop)]
+pub(crate) struct ChunkRefs {
+    notes: IndexMap<u64, ChunkRef>,
+}
+
+impl Model for ChunkRefs {
+    ghost use Rattle.indexmap.specs.IndexMap.{spare};
+    ghost use Rattle.fwd_book.specs.ChunkRefs.{ChunkRefsShown};
+
+    ghost Value = { ChunkRefsShown };
+
+    ghost view = { λ n. record { notes = n.notes.entries; room = spare n.notes } };
+}
+
+impl ChunkRefs {
+    /// No numbers.
+    pub(crate) fn new(alloc: Global) -> Self
+        ensures { result.notes ≡ [] }
+    {
+        ChunkRefs {
+            notes: IndexMap::new(alloc),
+        }
+    }
+
+    /// Makes room for so many numbers more. On an error nothing has changed.
+    pub(crate) fn reserve(&mut self, count: usize) -> Result<(), AllocError>
+        ensures ok { OnOk result (count ≤ self.new.room) }
+        ensures same { self.new.notes ≡ self.old.notes }
+        ensures more { self.old.room ≤ self.new.room }
+    {
+        self.notes.reserve(count)
+    }
+
+    /// One request more has the number.
+    pub(crate) fn more(&mut self, number: u64)
+        requires room { 0 < self.old.room }
+        requires few { uses_in (note_at number self.old.notes) < 2 ^ 63 }
+        ensures noted { (n : ℕ) → note_at n self.new.notes
+            ≡ (if number == n then Some (used_more (note_at number self.old.notes))
+            else note_at n self.old.notes) }
+        ensures room { self.old.room ≤ self.new.room + 1 }
+    {
+        if let Some(note) = self.notes.get_mut(&number) {
+            note.uses += 1;
+            return;
+        }
+        let note = ChunkRef {
+            uses: 1,
+            acked: None,
+        };
+        let Ok(_) = self.notes.insert(number, note) else {
+            unreachable!();
+        };
+    }
+
+    /// One request less has the number.
+    pub(crate) fn less(&mut self, number: u64)
+        ensures noted { (n : ℕ) → note_at n self.new.notes
+            ≡ (if number == n then used_less (note_at number self.old.notes)
+            else note_at n self.old.notes) }
+        ensures room { self.old.room ≤ self.new.room }
+    {
+        if self.uses(number) < 2 {
+            self.notes.swap_remove(&number);
+            return;
+        }
+        if let Some(note) = self.notes.get_mut(&number) {
+            note.uses -= 1;
+        }
+    }
+
+    /// How many requests have the number.
+    fn uses(&self, number: u64) -> usize
+        ensures { result ≡ uses_in (note_at number self.now.notes) }
+    {
+        match self.notes.get(&number) {
+            None => 0,
+            Some(note) => note.uses,
+        }
+    }
+
+    /// A chunk was acknowledged: it is kept where a request has its number, and none was before.
+    /// The relay settles a number once, but the definition has to say something of a second time.
+    pub(crate) fn put(&mut self, acked: Arc<Acked>)
+        ensures noted { let e = arc_value acked in (n : ℕ) → note_at n self.new.notes
+            ≡ (if e.number == n then put_in e (note_at e.number self.old.notes)
+            else note_at n self.old.notes) }
+        ensures room { self.old.room ≤ self.new.room }
+    {
+        let number = acked.number();
+        if self.get(number).is_some() {
+            return;
+        }
+        if let Some(note) = self.notes.get_mut(&number) {
+            note.acked = Some(acked);
+        }
+    }
+
+    /// The chunk that was acknowledged under a number.
+    pub(crate) fn get(&self, number: u64) -> Option<&Arc<Acked>>
+        ensures { option_map arc_value (option_copied result) ≡ found_at self.now.notes number }
+    {
+        self.notes.get(&number)?.acked.as_ref()
+    }
+
+    /// Whether something was acknowledged under the number of each run. It looks into no chunk:
+    /// that all entries of a request that is told were acknowledged is a law of the abstract relay
+    /// (`told_is_delivered`).
+    pub(crate) fn has_all(&self, spans: &[Span]) -> bool
+        ensures { result ≡ list_all (λ s. is_some (found_at self.now.notes s.number)) spans.now }
+    {
+        spans.iter().all(|span| self.get(span.number).is_some())
+    }
+
+    /// The runs with what was acknowledged under their numbers. The only error is out of memory.
+    pub(crate) fn parts(&self, alloc: Global, spans: &[Span]) -> Result<Vec<AckedRange>, AllocError>
+        ensures { IfOk result (λ parts. parts.items
+            ≡ flat_map (λ s. part_of (found_at self.now.notes s.number) s) spans.now) }
+    {
+        let mut parts = Vec::with_capacity(alloc, spans.len())?;
+        for span in spans {
+            if let Some(acked) = self.get(span.number) {
+                parts.push(AckedRange::new(Arc::try_clone(acked)?, span.from, span.count))?;
+            }
+        }
+        Ok(parts)
+    }
+}

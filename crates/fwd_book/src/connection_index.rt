@@ -1,0 +1,325 @@
+//! The requests of a book in slots, those of each connection in the order in which they were
+//! entered. A slab keeps its memory when it is empty. When it was given back, as a trial, the C
+//! library kept larger pieces inside its heap, and the next million requests took more.
+
+ghost use Rattle.std.specs.Prelude.{
+  ◌≡◌,
+  ◌<◌,
+  ◌≤◌,
+  ◌&&◌,
+  ◌==◌,
+  ℕ,
+  List,
+  [],
+  false,
+  None,
+  Some,
+  IsSome,
+  is_some,
+  length,
+  option_copied,
+  option_map,
+  option_to_list,
+  not,
+  if◌then◌else◌,
+  IfOk,
+  IsOk,
+  OnOk,
+};
+ghost use Rattle.std.specs.List.{flat_map, list_any};
+ghost use Rattle.indexmap.specs.IndexMap.{spare};
+ghost use Rattle.slab.specs.Slab.{get, slab_len};
+ghost use Rattle.fwd_book.specs.ChunkRefs.{are_found};
+ghost use Rattle.fwd_book.specs.Slots.{key_of, held_at, keyed};
+ghost use Rattle.fwd_book.specs.Links.{
+  ends_at,
+  is_the,
+  leads_to,
+  follows_on,
+  link_at,
+  origin_at,
+  passing_at,
+  with_last,
+  order_with,
+  order_without,
+  AreChained,
+};
+
+use crate::chunk_refs::ChunkRefs;
+use crate::entered_request::EnteredRequest;
+use fwd_modes::Origin;
+use indexmap::IndexMap;
+use slab::Slab;
+use std::alloc::{AllocError, Global};
+
+/// The slots of the earlier and of the later request of the same connection.
+#[derive(Clone, Copy)]
+pub(crate) struct Link {
+    earlier: Option<usize>,
+    later: Option<usize>,
+}
+
+/// The slots of a connection's first and last request.
+#[derive(Clone, Copy)]
+pub(crate) struct Ends {
+    first: usize,
+    last: usize,
+}
+
+/// A request with its link.
+#[derive(Drop)]
+pub(crate) struct Kept {
+    request: EnteredRequest,
+    link: Link,
+}
+
+/// Each request in a slot, and each connection that has one.
+#[derive(Drop)]
+pub(crate) struct ConnectionIndex {
+    kept: Slab<Kept>,
+    ends: IndexMap<u64, Ends>,
+}
+
+/// The request behind the one in this slot, if there is such a slot, is another.
+fn set_later(kept: &mut Slab<Kept>, slot: Option<usize>, later: Option<usize>)
+    ensures linked { (k : ℕ) → get kept.new k
+        ≡ (if is_the slot k then option_map (leads_to later) (get kept.old k)
+        else get kept.old k) }
+    ensures len { slab_len kept.new ≡ slab_len kept.old }
+    ensures capacity { kept.new.capacity ≡ kept.old.capacity }
+    ensures next { kept.new.vacant_key ≡ kept.old.vacant_key }
+{
+    let Some(slot) = slot else {
+        return;
+    };
+    if let Some(kept) = kept.get_mut(slot) {
+        kept.link.later = later;
+    }
+}
+
+/// The request before the one in this slot, if there is such a slot, is another.
+fn set_earlier(kept: &mut Slab<Kept>, slot: Option<usize>, earlier: Option<usize>)
+    ensures linked { (k : ℕ) → get kept.new k
+        ≡ (if is_the slot k then option_map (follows_on earlier) (get kept.old k)
+        else get kept.old k) }
+    ensures len { slab_len kept.new ≡ slab_len kept.old }
+    ensures capacity { kept.new.capacity ≡ kept.old.capacity }
+{
+    let Some(slot) = slot else {
+        return;
+    };
+    if let Some(kept) = kept.get_mut(slot) {
+        kept.link.earlier = earlier;
+    }
+}
+
+/// A request in this slot is its connection's last. Answers the slot of the one before it, if there
+/// is one.
+fn put_last(ends: &mut IndexMap<u64, Ends>, conn: u64, slot: usize) -> Option<usize>
+    requires { 0 < spare ends.old }
+    ensures earlier { result ≡ option_map (λ e. e.last) (ends_at ends.old.entries conn) }
+    ensures last { (c : ℕ) → ends_at ends.new.entries c
+        ≡ (if conn == c then Some (with_last slot (ends_at ends.old.entries conn))
+        else ends_at ends.old.entries c) }
+{
+    if let Some(ends) = ends.get_mut(&conn) {
+        let earlier = ends.last;
+        ends.last = slot;
+        return Some(earlier);
+    }
+    let alone = Ends {
+        first: slot,
+        last: slot,
+    };
+    let Ok(_) = ends.insert(conn, alone) else {
+        unreachable!();
+    };
+    None
+}
+
+/// The ends of a connection that has some, once a request left that was linked so.
+fn leave_ends(ends: &mut IndexMap<u64, Ends>, conn: u64, link: Link)
+    ensures first { IsSome (ends_at ends.old.entries conn)
+        → (c : ℕ) → option_map (λ e. e.first) (ends_at ends.new.entries c)
+        ≡ (if (conn == c) && not (is_some link.earlier) then link.later
+        else option_map (λ e. e.first) (ends_at ends.old.entries c)) }
+    ensures last { IsSome (ends_at ends.old.entries conn)
+        → (c : ℕ) → option_map (λ e. e.last) (ends_at ends.new.entries c)
+        ≡ (if (conn == c) && not (is_some link.later) then link.earlier
+        else option_map (λ e. e.last) (ends_at ends.old.entries c)) }
+    ensures room { spare ends.old ≤ spare ends.new }
+{
+    match (link.earlier, link.later) {
+        (None, None) => {
+            ends.swap_remove(&conn);
+        }
+        (None, Some(first)) => {
+            if let Some(ends) = ends.get_mut(&conn) {
+                ends.first = first;
+            }
+        }
+        (Some(last), None) => {
+            if let Some(ends) = ends.get_mut(&conn) {
+                ends.last = last;
+            }
+        }
+        (Some(_), Some(_)) => {}
+    }
+}
+
+impl ConnectionIndex {
+    /// No requests.
+    pub(crate) fn new(alloc: Global) -> Self
+        ensures { AreChained (link_at result.kept) result.ends.entries (λ _. []) }
+    {
+        ConnectionIndex {
+            kept: Slab::new(alloc),
+            ends: IndexMap::new(alloc),
+        }
+    }
+
+    /// Makes room for one more request. On an error nothing has changed.
+    pub(crate) fn reserve(&mut self) -> Result<(), AllocError>
+        ensures kept_room { OnOk result (slab_len self.new.kept < self.new.kept.capacity) }
+        ensures ends_room { OnOk result (0 < spare self.new.ends) }
+        ensures kept { self.new.kept ≡ record self.old.kept { capacity = self.new.kept.capacity } }
+        ensures ends { self.new.ends.entries ≡ self.old.ends.entries }
+        ensures more_kept { self.old.kept.capacity ≤ self.new.kept.capacity }
+        ensures more_ends { spare self.old.ends ≤ spare self.new.ends }
+    {
+        self.kept.reserve(1)?;
+        self.ends.reserve(1)
+    }
+
+    /// The slot of a connection's first request, if it has one.
+    pub(crate) fn first(&self, conn: u64) -> Option<usize>
+        ensures { result ≡ option_map (λ e. e.first) (ends_at self.now.ends.entries conn) }
+    {
+        match self.ends.get(&conn) {
+            None => None,
+            Some(ends) => Some(ends.first),
+        }
+    }
+
+    /// The request in a slot, if it is the one of the origin.
+    pub(crate) fn get(&self, slot: usize, origin: Origin) -> Option<&EnteredRequest>
+        ensures { option_copied result ≡ keyed (key_of origin) (held_at self.now.kept slot) }
+    {
+        let kept = self.kept.get(slot)?;
+        let own = kept.request.origin();
+        if origin.conn == own.conn && origin.request == own.request {
+            Some(&kept.request)
+        } else {
+            None
+        }
+    }
+
+    /// The origins of a connection's requests, which are not more than so many, in their order.
+    pub(crate) fn origins(
+        &self,
+        alloc: Global,
+        conn: u64,
+        most: usize,
+    ) -> Result<Vec<Origin>, AllocError>
+        ensures { (order : ℕ → List ℕ)
+            → AreChained (link_at self.now.kept) self.now.ends.entries order
+            → length (order conn) ≤ most → IfOk result (λ origins. origins.items
+            ≡ flat_map (λ k. option_to_list (origin_at (held_at self.now.kept) k)) (order conn)) }
+    {
+        let mut origins = Vec::new(alloc);
+        let mut next = self.first(conn);
+        for _ in 0..most {
+            let Some(slot) = next else {
+                break;
+            };
+            let Some(kept) = self.kept.get(slot) else {
+                break;
+            };
+            origins.push(kept.request.origin())?;
+            next = kept.link.later;
+        }
+        Ok(origins)
+    }
+
+    /// The origins of a connection's requests, which are not more than so many, whose entries are
+    /// all acknowledged, in their order. The only error is out of memory, and where there are none
+    /// it takes no memory.
+    pub(crate) fn due(
+        &self,
+        alloc: Global,
+        conn: u64,
+        most: usize,
+        numbers: &ChunkRefs,
+    ) -> Result<Vec<Origin>, AllocError>
+        ensures due { (order : ℕ → List ℕ)
+            → AreChained (link_at self.now.kept) self.now.ends.entries order
+            → length (order conn) ≤ most → IfOk result (λ due. due.items
+            ≡ flat_map (passing_at (are_found numbers.now.notes) (held_at self.now.kept))
+            (order conn)) }
+        ensures none { (order : ℕ → List ℕ)
+            → AreChained (link_at self.now.kept) self.now.ends.entries order
+            → flat_map (passing_at (are_found numbers.now.notes) (held_at self.now.kept))
+            (order conn) ≡ [] → IsOk result }
+    {
+        let mut due = Vec::new(alloc);
+        let mut next = self.first(conn);
+        for _ in 0..most {
+            let Some(slot) = next else {
+                break;
+            };
+            let Some(kept) = self.kept.get(slot) else {
+                break;
+            };
+            if numbers.has_all(kept.request.spans()) {
+                due.push(kept.request.origin())?;
+            }
+            next = kept.link.later;
+        }
+        Ok(due)
+    }
+
+    /// A request comes behind its connection's others, into room that was made for it. Answers its
+    /// slot, which was empty.
+    pub(crate) fn push(&mut self, request: EnteredRequest) -> usize
+        requires kept { slab_len self.old.kept < self.old.kept.capacity }
+        requires ends { 0 < spare self.old.ends }
+        ensures empty { held_at self.old.kept result ≡ None }
+        ensures held { (k : ℕ) → held_at self.new.kept k
+            ≡ (if result == k then Some request else held_at self.old.kept k) }
+        ensures chained { (order : ℕ → List ℕ)
+            → AreChained (link_at self.old.kept) self.old.ends.entries order
+            → list_any (λ k. result == k) (order request.origin.conn) ≡ false
+            → AreChained (link_at self.new.kept) self.new.ends.entries
+            (order_with request.origin.conn result order) }
+    {
+        let slot = self.kept.vacant_key();
+        let earlier = put_last(&mut self.ends, request.origin().conn, slot);
+        set_later(&mut self.kept, earlier, Some(slot));
+        let link = Link {
+            earlier,
+            later: None,
+        };
+        self.kept.insert_reserved(Kept { request, link })
+    }
+
+    /// The request in a slot leaves, if there is one: the one before it and the one behind it are
+    /// linked.
+    pub(crate) fn remove(&mut self, slot: usize) -> Option<EnteredRequest>
+        ensures taken { result ≡ held_at self.old.kept slot }
+        ensures held { (k : ℕ) → held_at self.new.kept k
+            ≡ (if slot == k then None else held_at self.old.kept k) }
+        ensures chained { (order : ℕ → List ℕ)
+            → AreChained (link_at self.old.kept) self.old.ends.entries order
+            → AreChained (link_at self.new.kept) self.new.ends.entries
+            (order_without slot order) }
+        ensures len { slab_len self.new.kept ≤ slab_len self.old.kept }
+        ensures capacity { self.new.kept.capacity ≡ self.old.kept.capacity }
+        ensures ends { spare self.old.ends ≤ spare self.new.ends }
+    {
+        let Kept { request, link } = self.kept.try_remove(slot)?;
+        set_later(&mut self.kept, link.earlier, link.later);
+        set_earlier(&mut self.kept, link.later, link.earlier);
+        leave_ends(&mut self.ends, request.origin().conn, link);
+        Some(request)
+    }
+}

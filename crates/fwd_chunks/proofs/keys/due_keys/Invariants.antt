@@ -1,6 +1,0 @@
-use Rattle.std.proofs.Common.{◌≡◌, map, take}
-use Rattle.fwd_chunks.specs.Slots.{present, due_key}
-use Rattle.fwd_chunks.proofs.keys.due_keys.Given as goal
-
-abbrev pub invariant-loop-place : goal.invariant-loop-place
-invariant-loop-place l = l.keys.items ≡ map due_key (present (take l.place l.shelf.slots))

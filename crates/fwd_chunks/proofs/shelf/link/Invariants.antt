@@ -1,5 +1,0 @@
-use Rattle.fwd_chunks.proofs.Shelving.{Linking}
-use Rattle.fwd_chunks.proofs.shelf.link.Given as goal
-
-abbrev pub invariant-loop-place : goal.invariant-loop-place
-invariant-loop-place l = Linking l.place l.places l.fn.kept l.kept

@@ -1,0 +1,326 @@
+//! Chunks by rising number, each found by its number, and the first that is free or due, in the
+//! logarithm of their count.
+
+ghost use Rattle.std.specs.Prelude.{
+  ◌≡◌,
+  ◌<◌,
+  ◌≤◌,
+  ◌+◌,
+  ◌-◌,
+  ◌^◌,
+  ◌&&◌,
+  not,
+  None,
+  Some,
+  [],
+  ◌∷◌,
+  ◌++◌,
+  length,
+  filter,
+  find,
+  option_map,
+  option_copied,
+  slice_get,
+  true,
+  IsTrue,
+  IsSomeAnd,
+  OnOk,
+  OnErr,
+};
+ghost use Rattle.std.specs.List.{AllByRecursion};
+ghost use Rattle.fwd_chunks.specs.declared.chunk.Chunk.{Chunk};
+ghost use Rattle.fwd_chunks.specs.Cells.{size_of, number_after};
+ghost use Rattle.fwd_chunks.specs.Filling.{joined_by, stage_last};
+ghost use Rattle.fwd_chunks.specs.Live.{
+  is_at,
+  is_open,
+  is_closed,
+  is_due,
+  changed,
+  staged,
+};
+ghost use Rattle.fwd_retry.specs.Tallies.{live_is_over};
+ghost use Rattle.fwd_chunks.specs.Parts.{entries_in};
+ghost use Rattle.fwd_chunks.specs.Slots.{
+  ChunksRise,
+  AreAbove,
+  chunk_in,
+  began_by,
+  appended,
+  noted,
+};
+ghost use Rattle.fwd_chunks.specs.Stored.{put_back};
+
+use crate::chunk::Chunk;
+use crate::chunk_slab::ChunkSlab;
+use crate::chunk_state::ChunkState;
+use crate::entry_range::EntryRange;
+use crate::flush::FlushKind;
+use crate::ready_index::ReadyIndex;
+use fwd_retry::Retry;
+use std::alloc::{AllocError, Global};
+use std::marker::Model;
+
+/// Chunks by rising number, with room for more.
+#[derive(Drop)]
+pub(crate) struct ChunkIndex {
+    shelf: ChunkSlab,
+    /// By the places of the shelf.
+    keys: ReadyIndex,
+    /// The greatest number that a chunk had.
+    last: Option<u64>,
+}
+
+impl Model for ChunkIndex {
+    ghost use Rattle.std.specs.Prelude.{◌-◌, length, min};
+    ghost use Rattle.fwd_chunks.specs.Slots.{Held, IsSlotted, present};
+
+    ghost Value = { Held };
+
+    ghost view = { λ s. record {
+      retry = s.keys.retry;
+      chunks = present s.shelf.slots;
+      last = s.last;
+      room = min (length s.keys.ready - length s.shelf.slots) s.shelf.spare;
+    } };
+
+    ghost invariant = { λ s. IsSlotted s.shelf.slots s.shelf.cap s.keys s.last };
+}
+
+/// Whether a chunk is open, and is not closed as entries go to it.
+fn stays_open(chunk: Option<&Chunk>, last: bool) -> bool
+    ensures { IsTrue result
+        → IsSomeAnd (option_copied chunk.entry) (λ c. is_open c.stage ≡ true) × (last ≡ true) }
+{
+    match chunk {
+        None => false,
+        Some(chunk) => last && matches!(chunk.stage, ChunkState::Open),
+    }
+}
+
+/// The keys at a place are those of the chunk there, if there is one.
+fn note(keys: &mut ReadyIndex, shelf: &ChunkSlab, place: usize)
+    requires ready { place < length keys.old.ready }
+    requires due { place < length keys.old.due }
+    ensures { keys.new ≡ noted place (chunk_in (slice_get shelf.now.slots place)) keys.old }
+{
+    if let Some(chunk) = shelf.get(place) {
+        keys.set(place, chunk);
+    }
+}
+
+impl ChunkIndex {
+    /// No chunks.
+    pub(crate) fn new(alloc: Global, retry: Retry) -> Self
+        ensures { result ≡ record { retry = retry; chunks = []; last = None; room = 0 } }
+    {
+        ChunkIndex {
+            shelf: ChunkSlab::new(alloc),
+            keys: ReadyIndex::new(alloc, retry),
+            last: None,
+        }
+    }
+
+    /// The chunks' numbers rise, and 64 bits hold their moments and their count.
+    fn is_ordered(&self)
+        ensures rise { ChunksRise self.now.chunks }
+        ensures timed { AllByRecursion (λ c. c.since < 2 ^ 64) self.now.chunks }
+        ensures bound { length self.now.chunks < 2 ^ 64 }
+    {
+        let _held = self.shelf.held();
+    }
+
+    /// How many chunks there are.
+    pub(crate) fn len(&self) -> usize
+        ensures { result ≡ length self.now.chunks }
+    {
+        self.shelf.held()
+    }
+
+    /// The greatest number that a chunk had.
+    pub(crate) fn last(&self) -> Option<u64>
+        ensures { result ≡ self.now.last }
+    {
+        self.last
+    }
+
+    /// The chunk of the number, at once where it lies at the key.
+    pub(crate) fn get(&self, number: u64, key: usize) -> Option<&Chunk>
+        ensures { option_copied result ≡ find (is_at number) self.now.chunks }
+    {
+        self.shelf.find(number, key)
+    }
+
+    /// The first chunk that a worker may have at a moment, and its key.
+    pub(crate) fn first_free(&self, moment: u64) -> Option<(&Chunk, usize)>
+        ensures { option_map (λ p. p.0.now) result ≡ find (λ c. is_closed c.stage
+            && live_is_over self.now.retry.wait self.now.retry.max c.losses moment)
+            self.now.chunks }
+    {
+        let place = self.keys.first_ready(moment)?;
+        self.shelf.keyed(place)
+    }
+
+    /// The number of the first open chunk that began at the moment or before, and its key.
+    fn first_due(&self, moment: u64) -> Option<(u64, usize)>
+        ensures { option_map (λ p. p.0) result ≡ option_map (λ c. c.number)
+            (find (began_by moment) self.now.chunks) }
+    {
+        let place = self.keys.first_due(moment)?;
+        let (chunk, key) = self.shelf.keyed(place)?;
+        Some((chunk.number, key))
+    }
+
+    /// The chunk of the number stands elsewhere, if there is one. It is found at once where it lies
+    /// at the key.
+    pub(crate) fn stage(&mut self, number: u64, key: usize, stage: ChunkState)
+        ensures { self.new ≡ record self.old {
+          chunks = changed (is_at number) (staged stage) self.old.chunks;
+        } }
+    {
+        let Some(place) = self.shelf.place_of(number, key) else {
+            return;
+        };
+        self.shelf.stage(place, stage);
+        note(&mut self.keys, &self.shelf, place);
+    }
+
+    /// The chunk of the number, if there is one, is closed again, with a loss at a moment where it
+    /// was lost.
+    pub(crate) fn put_back(&mut self, number: u64, key: usize, lost: bool, moment: u64)
+        ensures { self.new ≡ record self.old {
+          chunks = changed (is_at number) (put_back lost moment) self.old.chunks;
+        } }
+    {
+        let Some(place) = self.shelf.place_of(number, key) else {
+            return;
+        };
+        self.shelf.put_back(place, lost, moment);
+        note(&mut self.keys, &self.shelf, place);
+    }
+
+    /// Entries go to the open chunk of the number, if there is one, and it is closed where others
+    /// follow. On an error nothing has changed.
+    pub(crate) fn join(
+        &mut self,
+        number: u64,
+        key: usize,
+        front: EntryRange<'_>,
+        last: bool,
+    ) -> Result<(), AllocError>
+        requires { (c : Chunk) → find (is_at number) self.old.chunks ≡ Some c
+            → size_of c.entries < 2 ^ 32
+            → size_of c.entries + size_of (entries_in front) < 2 ^ 32 }
+        ensures ok { OnOk result (self.new ≡ record self.old {
+          chunks = changed (is_at number)
+              (joined_by (entries_in front.entry) (stage_last last)) self.old.chunks;
+        }) }
+        ensures err { OnErr result (self.new ≡ self.old) }
+    {
+        let Some(place) = self.shelf.place_of(number, key) else {
+            return Ok(());
+        };
+        let stays = stays_open(self.shelf.get(place), last);
+        self.shelf.join(place, front, last)?;
+        if !stays {
+            note(&mut self.keys, &self.shelf, place);
+        }
+        Ok(())
+    }
+
+    /// The chunk of the number leaves.
+    pub(crate) fn remove(&mut self, number: u64, key: usize) -> Option<Chunk>
+        ensures result { result ≡ find (is_at number) self.old.chunks }
+        ensures left { self.new ≡ record self.old {
+          chunks = filter (λ c. not (is_at number c)) self.old.chunks;
+          room = self.new.room;
+        } }
+    {
+        let place = self.shelf.place_of(number, key)?;
+        let chunk = self.shelf.take(place)?;
+        self.keys.clear(place);
+        Some(chunk)
+    }
+
+    /// Makes room for so many chunks more. On an error nothing has changed.
+    pub(crate) fn reserve(&mut self, alloc: Global, count: usize) -> Result<(), AllocError>
+        ensures ok { OnOk result (count ≤ self.new.room) }
+        ensures kept { record self.new { room = 0 } ≡ record self.old { room = 0 } }
+    {
+        self.shelf.reserve(count)?;
+        if count <= self.keys.places() - self.shelf.len() {
+            return Ok(());
+        }
+        let needed = self.shelf.held().checked_add(count).ok_or(AllocError)?;
+        let places = needed.checked_mul(2).ok_or(AllocError)?;
+        let keys = ReadyIndex::of(alloc, self.keys.retry(), &self.shelf, places)?;
+        self.shelf.compact(places)?;
+        self.keys = keys;
+        Ok(())
+    }
+
+    /// A chunk comes behind all others, into room that is there. Answers its key.
+    pub(crate) fn push(&mut self, chunk: Chunk) -> usize
+        requires room { 0 < self.old.room }
+        requires above { number_after 0 self.old.last ≤ chunk.number }
+        ensures { self.new ≡ record self.old {
+          chunks = self.old.chunks ++ chunk ∷ [];
+          last = Some chunk.number;
+          room = self.old.room - 1;
+        } }
+    {
+        let number = chunk.number;
+        self.keys.set(self.shelf.len(), &chunk);
+        self.last = Some(number);
+        self.shelf.push(chunk)
+    }
+
+    /// Chunks come behind all others, into room that is there. Answers the key of the last.
+    pub(crate) fn append(&mut self, fresh: Vec<Chunk>) -> usize
+        requires room { length fresh.items ≤ self.old.room }
+        requires above { AreAbove self.old.last fresh.items }
+        ensures { self.new ≡ appended self.old fresh.items }
+    {
+        let mut key = 0;
+        for chunk in fresh {
+            key = self.push(chunk);
+        }
+        key
+    }
+
+    /// Closes the open chunks that began at the moment or before, and answers how many.
+    fn close_from(&mut self, moment: u64) -> usize
+        ensures count { result
+            ≡ length (filter (began_by moment) self.old.chunks) }
+        ensures closed { self.new ≡ record self.old {
+          chunks = changed (began_by moment) (staged ChunkState.Closed)
+              self.old.chunks;
+        } }
+    {
+        let mut count = 0;
+        self.is_ordered();
+        while let Some((number, key)) = self.first_due(moment) {
+            self.is_ordered();
+            self.stage(number, key, ChunkState::Closed);
+            count += 1;
+        }
+        count
+    }
+
+    /// Closes what a flush at a moment closes, and answers how many chunks that are.
+    pub(crate) fn flush(&mut self, kind: FlushKind, interval: u64, moment: u64) -> usize
+        ensures count { result ≡ length (filter (is_due kind interval moment) self.old.chunks) }
+        ensures closed { self.new ≡ record self.old {
+          chunks = changed (is_due kind interval moment) (staged ChunkState.Closed) self.old.chunks;
+        } }
+    {
+        self.is_ordered();
+        match kind {
+            FlushKind::All => self.close_from(u64::MAX),
+            FlushKind::Due => match moment.checked_sub(interval) {
+                None => 0,
+                Some(from) => self.close_from(from),
+            },
+        }
+    }
+}

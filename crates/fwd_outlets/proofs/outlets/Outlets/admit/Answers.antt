@@ -1,1 +1,0 @@
-use Rattle.fwd_outlets.proofs.outlets.Outlets.admit.Goals as goal

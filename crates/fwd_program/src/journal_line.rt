@@ -1,0 +1,296 @@
+//! What is said of an event.
+
+use fwd_loop::{CloseReason, JournalEvent, ListenerKind, MemoryFor};
+use fwd_script::{session_fault_name, source_fault_name};
+use fwd_workers::{AdmitRefusal, LinkFault, LossReason};
+use std::fmt;
+
+/// The kinds of events.
+#[derive(Clone, Copy, PartialEq, Eq)]
+pub enum LineKind {
+    Listening = 0,
+    SourceClosed = 1,
+    ServerLost = 2,
+    ServerBack = 3,
+    ServerChanged = 4,
+    OverLimit = 5,
+    Memory = 6,
+    FewFiles = 7,
+    Descriptors = 8,
+    ChunkRefused = 9,
+    OutputFull = 10,
+    LeftOut = 11,
+}
+
+impl LineKind {
+    /// How many kinds there are.
+    pub const COUNT: usize = 12;
+
+    /// Each kind once.
+    pub const ALL: [LineKind; 12] = [
+        LineKind::Listening,
+        LineKind::SourceClosed,
+        LineKind::ServerLost,
+        LineKind::ServerBack,
+        LineKind::ServerChanged,
+        LineKind::OverLimit,
+        LineKind::Memory,
+        LineKind::FewFiles,
+        LineKind::Descriptors,
+        LineKind::ChunkRefused,
+        LineKind::OutputFull,
+        LineKind::LeftOut,
+    ];
+
+    /// The kind of an event.
+    pub fn of(event: &JournalEvent) -> LineKind {
+        match event {
+            JournalEvent::Listening { .. } => LineKind::Listening,
+            JournalEvent::SourceClosed { .. } | JournalEvent::Unrouted { .. } =>
+                LineKind::SourceClosed,
+            JournalEvent::ServerLost { .. } => LineKind::ServerLost,
+            JournalEvent::ServerBack { .. } => LineKind::ServerBack,
+            JournalEvent::ServerChanged { .. } => LineKind::ServerChanged,
+            JournalEvent::OverLimit { .. } => LineKind::OverLimit,
+            JournalEvent::Memory(_) => LineKind::Memory,
+            JournalEvent::FewFiles { .. } => LineKind::FewFiles,
+            JournalEvent::Descriptors(_) => LineKind::Descriptors,
+            JournalEvent::ChunkRefused { .. } => LineKind::ChunkRefused,
+            JournalEvent::Full { .. } | JournalEvent::Room { .. } => LineKind::OutputFull,
+            JournalEvent::LeftOut(_) => LineKind::LeftOut,
+        }
+    }
+}
+
+/// What each line of the kind begins with.
+impl fmt::Display for LineKind {
+    fn fmt<W: fmt::Write>(&self, f: &mut fmt::Formatter<W>) -> fmt::Result {
+        f.write_str(match self {
+            LineKind::Listening => "listening",
+            LineKind::SourceClosed => "source closed",
+            LineKind::ServerLost => "server lost",
+            LineKind::ServerBack => "server back",
+            LineKind::ServerChanged => "server changed",
+            LineKind::OverLimit => "over the limit",
+            LineKind::Memory => "memory",
+            LineKind::FewFiles => "few files",
+            LineKind::Descriptors => "no descriptor",
+            LineKind::ChunkRefused => "chunk refused",
+            LineKind::OutputFull => "output full",
+            LineKind::LeftOut => "journal",
+        })
+    }
+}
+
+/// What lines are about that are limited together: the kind, and the name and the output where
+/// they have any.
+#[derive(Clone, Copy, PartialEq, Eq)]
+pub struct Subject {
+    pub kind: LineKind,
+    name: &'static str,
+    output: Option<u16>,
+}
+
+impl Subject {
+    /// What an event is about.
+    pub fn of(event: &JournalEvent) -> Subject {
+        let kind = LineKind::of(event);
+        let (name, output) = match event {
+            JournalEvent::Listening { listener, .. } => (listener_name(*listener), None),
+            JournalEvent::SourceClosed { why, .. } => (close_reason_name(*why), output_of(*why)),
+            JournalEvent::Unrouted { .. } => (close_reason_name(CloseReason::NoRoute), None),
+            JournalEvent::ServerLost { output, why, .. } => (loss_name(*why), Some(*output)),
+            JournalEvent::ServerBack { output, .. } => ("", Some(*output)),
+            JournalEvent::ServerChanged { output, .. } => ("", Some(*output)),
+            JournalEvent::OverLimit { listener, .. } => (listener_name(*listener), None),
+            JournalEvent::Memory(MemoryFor::Output(output)) => ("", Some(*output)),
+            JournalEvent::Memory(purpose) => (purpose_name(*purpose), None),
+            JournalEvent::FewFiles { .. } => ("", None),
+            JournalEvent::Descriptors(listener) => (listener_name(*listener), None),
+            JournalEvent::ChunkRefused { output, .. } => ("", Some(*output)),
+            JournalEvent::Full { output, .. } | JournalEvent::Room { output } => (
+                "",
+                Some(*output),
+            ),
+            JournalEvent::LeftOut(_) => ("", None),
+        };
+        Subject { kind, name, output }
+    }
+
+    /// Other lines of a kind.
+    pub fn others(kind: LineKind) -> Subject {
+        let (name, output) = ("others", None);
+        Subject { kind, name, output }
+    }
+}
+
+/// What lines of the subject have in common.
+impl fmt::Display for Subject {
+    fn fmt<W: fmt::Write>(&self, f: &mut fmt::Formatter<W>) -> fmt::Result {
+        let Subject { kind, name, output } = self;
+        write!(f, "{kind}:")?;
+        if let Some(output) = output {
+            write!(f, " output {output}")?;
+        }
+        if name.is_empty() {
+            return Ok(());
+        }
+        write!(f, " {name}")
+    }
+}
+
+/// An event in words, on one line, without its line feed. No byte of a peer stands in it.
+#[derive(Clone, Copy)]
+pub struct JournalLine {
+    pub event: JournalEvent,
+}
+
+impl fmt::Display for JournalLine {
+    fn fmt<W: fmt::Write>(&self, f: &mut fmt::Formatter<W>) -> fmt::Result {
+        let kind = LineKind::of(&self.event);
+        if kind != LineKind::OutputFull {
+            write!(f, "{kind}: ")?;
+        }
+        match self.event {
+            JournalEvent::Listening { listener, address } => {
+                let listener = listener_name(listener);
+                write!(f, "{listener}s at {address}")
+            }
+            JournalEvent::SourceClosed { peer, why } => {
+                let name = close_reason_name(why);
+                write!(f, "{peer} {name}")?;
+                match output_of(why) {
+                    Some(output) => write!(f, " output {output}"),
+                    None => Ok(()),
+                }
+            }
+            JournalEvent::Unrouted { peer, tag } => {
+                let name = close_reason_name(CloseReason::NoRoute);
+                write!(f, "{peer} {name} tag ")?;
+                write_hex(f, tag.as_slice())
+            }
+            JournalEvent::ServerLost {
+                output,
+                server,
+                why,
+            } => {
+                let name = loss_name(why);
+                write!(f, "output {output} {server} {name}")
+            }
+            JournalEvent::ServerBack { output, server } => write!(f, "output {output} {server}"),
+            JournalEvent::ServerChanged {
+                output,
+                worker,
+                server,
+            } => write!(f, "output {output} worker {worker} {server}"),
+            JournalEvent::OverLimit { listener, peer } => {
+                let listener = listener_name(listener);
+                write!(f, "{listener} {peer}")
+            }
+            JournalEvent::Memory(purpose) => tell_purpose(f, purpose),
+            JournalEvent::FewFiles { files, sources } => write!(
+                f,
+                "{files} open at most, {sources} sources"
+            ),
+            JournalEvent::Descriptors(listener) => f.write_str(listener_name(listener)),
+            JournalEvent::ChunkRefused {
+                output,
+                server,
+                tag,
+                size,
+                losses,
+                why,
+            } => {
+                write!(f, "output {output} tag ")?;
+                write_hex(f, tag.as_slice())?;
+                let name = loss_name(why);
+                write!(f, " bytes {size} losses {losses} server {server} {name}")
+            }
+            JournalEvent::Full { output, sources } => {
+                write!(f, "output {output} full: {sources} sources wait")
+            }
+            JournalEvent::Room { output } => write!(f, "output {output} has room"),
+            JournalEvent::LeftOut(count) => write!(f, "{count} left out"),
+        }
+    }
+}
+
+/// Bytes in hexadecimal digits.
+fn write_hex<W: fmt::Write>(f: &mut fmt::Formatter<W>, bytes: &[u8]) -> fmt::Result {
+    for byte in bytes {
+        write!(f, "{byte:02x}")?;
+    }
+    Ok(())
+}
+
+/// What memory was refused for.
+fn tell_purpose<W: fmt::Write>(f: &mut fmt::Formatter<W>, purpose: MemoryFor) -> fmt::Result {
+    match purpose {
+        MemoryFor::Source(peer) => write!(f, "source {peer}"),
+        MemoryFor::Output(output) => write!(f, "output {output}"),
+        purpose => f.write_str(purpose_name(purpose)),
+    }
+}
+
+/// What memory was refused for, but for an output.
+fn purpose_name(purpose: MemoryFor) -> &'static str {
+    match purpose {
+        MemoryFor::Source(_) => "source",
+        MemoryFor::Monitor => "monitor",
+        MemoryFor::Output(_) => "output",
+        MemoryFor::News => "news of workers",
+        MemoryFor::Pause => "no source is read",
+    }
+}
+
+/// Who connects to a listener.
+fn listener_name(listener: ListenerKind) -> &'static str {
+    match listener {
+        ListenerKind::Source => "source",
+        ListenerKind::Monitor => "monitor",
+    }
+}
+
+/// The name of why a source is closed.
+fn close_reason_name(why: CloseReason) -> &'static str {
+    match why {
+        CloseReason::Fault(fault) => source_fault_name(fault),
+        CloseReason::Refused(_, refusal) => admit_refusal_name(refusal),
+        CloseReason::NoRoute => "NoRoute",
+        CloseReason::NoLogin => "NoLogin",
+        CloseReason::Idle => "Idle",
+    }
+}
+
+/// The output that closes a source, where one does.
+fn output_of(why: CloseReason) -> Option<u16> {
+    match why {
+        CloseReason::Refused(output, _) => Some(output),
+        _ => None,
+    }
+}
+
+/// The name of why an output does not admit a request.
+fn admit_refusal_name(refusal: AdmitRefusal) -> &'static str {
+    match refusal {
+        AdmitRefusal::Memory => "Memory",
+        AdmitRefusal::NotNow => "NotNow",
+        AdmitRefusal::Full => "Full",
+        AdmitRefusal::NumbersSpent => "NumbersSpent",
+    }
+}
+
+/// The name of why a server is lost.
+fn loss_name(why: LossReason) -> &'static str {
+    match why {
+        LossReason::Link(LinkFault::Connect) => "Connect",
+        LossReason::Link(LinkFault::Read) => "Read",
+        LossReason::Link(LinkFault::Write) => "Write",
+        LossReason::Link(LinkFault::Descriptors) => "Descriptors",
+        LossReason::Link(LinkFault::Memory) => "Memory",
+        LossReason::Closed => "Closed",
+        LossReason::Fault(fault) => session_fault_name(fault),
+        LossReason::Late => "Late",
+        LossReason::Memory => "Memory",
+    }
+}

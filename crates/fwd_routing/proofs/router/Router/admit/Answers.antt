@@ -1,0 +1,1 @@
+use Rattle.fwd_routing.proofs.router.Router.admit.Goals as goal

@@ -1,0 +1,453 @@
+//! The connections that stand.
+
+ghost use Rattle.std.specs.Prelude.{◌≡◌, ℕ, true, IfNone, IfSome};
+ghost use Rattle.fwd_routing.specs.Idling.{IsIdlest, NoneIsIdle};
+ghost use Rattle.fwd_routing.specs.Idling as idling;
+ghost use Rattle.fwd_routing.specs.Lateness.{IsLate, is_late, is_unknown, limit_of};
+ghost use Rattle.fwd_routing.specs.OpenConnections.{longer_idle, source_with, sources_in};
+ghost use Rattle.fwd_routing.specs.Tellings.{AreTold, IsToldAt, IsToldOf};
+
+use crate::deadlines::{Deadlines, Unidentified};
+use crate::monitor_peer::MonitorPeer;
+use fwd_book::Receipt;
+use fwd_peers::SourcePeer;
+use mio::net::TcpStream;
+use mio::{Interest, Registry, Token};
+use slab::Slab;
+use std::alloc::{AllocError, Global};
+use std::collections::{BTreeMap, VecDeque};
+use std::mem;
+
+/// How long a source has to log in, where a shared key is set, in milliseconds.
+const LOGIN_LIMIT: u64 = 30_000;
+
+/// How long a monitor has to send its request's head, in milliseconds.
+const HEAD_LIMIT: u64 = 10_000;
+
+/// A connection.
+#[derive(Drop)]
+pub enum Connection {
+    Source(SourcePeer),
+    Monitor(MonitorPeer),
+}
+
+impl Connection {
+    /// Its stream.
+    fn stream(&mut self) -> &mut TcpStream {
+        match self {
+            Connection::Source(source) => &mut source.stream.tcp,
+            Connection::Monitor(monitor) => &mut monitor.stream.tcp,
+        }
+    }
+
+    /// Whether it has yet to show what it is: a source to log in, a monitor to send its head.
+    fn is_unknown(&self) -> bool
+        ensures { result ≡ is_unknown self.now }
+    {
+        match self {
+            Connection::Source(source) => source.awaits_login(),
+            Connection::Monitor(monitor) => monitor.awaits_head(),
+        }
+    }
+
+    /// How long it has for that, in milliseconds.
+    fn limit(&self) -> u64
+        ensures { result ≡ limit_of self.now }
+    {
+        match self {
+            Connection::Source(_) => LOGIN_LIMIT,
+            Connection::Monitor(_) => HEAD_LIMIT,
+        }
+    }
+}
+
+/// A connection that is open.
+#[derive(Drop)]
+pub(crate) struct OpenConnection {
+    connection: Connection,
+    /// When it came, in milliseconds.
+    came: u64,
+    /// It stands in the queue of those that are ready.
+    is_ready: bool,
+    /// It stands in the queue of those that may be written.
+    is_writable: bool,
+    /// It stands in the queue of those that are held.
+    is_held: bool,
+    /// The system told that its other side closed, or that it failed, which it tells once: it is
+    /// read to its end from now on.
+    is_closing: bool,
+}
+
+impl OpenConnection {
+    /// Since when it has been silent (milliseconds), where it is a source, neither it nor the relay
+    /// owes the other anything, and it does not wait to be read.
+    fn idle_since(&self) -> Option<u64>
+        ensures { result ≡ idling.idle_since self.now }
+    {
+        if self.is_ready {
+            return None;
+        }
+        match &self.connection {
+            Connection::Source(source) => source.silent_since(),
+            Connection::Monitor(_) => None,
+        }
+    }
+
+    /// Whether it has had its time by a moment (milliseconds), and has not shown what it is.
+    fn is_late(&self, now: u64) -> bool
+        ensures { result ≡ is_late now self.now }
+    {
+        self.connection.is_unknown() && now.saturating_sub(self.came) >= self.connection.limit()
+    }
+
+    /// Tells a receipt to a source, if it is of one of its requests, and says whether it is to
+    /// stand in the queue of those that may be written, where it did not.
+    #[tactic(auto, using(crate::proofs::Telling::told_alone, crate::proofs::Telling::stays))]
+    fn answer(&mut self, receipt: &Receipt) -> bool
+        ensures { (id : ℕ) → IsToldAt id receipt.now
+            (source_with id self.old.connection) (source_with id self.new.connection) }
+    {
+        match &mut self.connection {
+            Connection::Source(source) => source.answer(receipt),
+            Connection::Monitor(_) => return false,
+        }
+        !mem::replace(&mut self.is_writable, true)
+    }
+}
+
+/// A source that is idle.
+#[derive(Clone, Copy)]
+struct Idle {
+    key: usize,
+    /// Since when, in milliseconds.
+    since: u64,
+}
+
+/// The connection at a key, where it is idle, and has been for longer than this one.
+fn longer_of(idlest: Option<Idle>, key: usize, opened: &OpenConnection) -> Option<Idle>
+    ensures { result ≡ longer_idle idlest key (idling.idle_since opened.now) }
+{
+    let Some(since) = opened.idle_since() else {
+        return idlest;
+    };
+    match idlest {
+        Some(idlest) if idlest.since <= since => Some(idlest),
+        _ => Some(Idle { key, since }),
+    }
+}
+
+/// The connections that stand, by keys, with three queues: of those that are ready to be read, or
+/// may have more to be read; of the sources that have something to be sent, or may take it now; and
+/// of the sources that are held, since their requests wait until others are answered, or settled.
+#[derive(Drop)]
+pub struct Connections {
+    opened: Slab<OpenConnection>,
+    /// Each key at most once.
+    ready: VecDeque<usize>,
+    /// Each key at most once.
+    writable: VecDeque<usize>,
+    /// Each key that stands there at most once.
+    held: VecDeque<usize>,
+    /// The keys of the sources, by their ids.
+    sources: BTreeMap<u64, usize>,
+    /// The keys of the monitors.
+    monitors: Vec<usize>,
+    /// Sources that may have yet to log in.
+    logins: Deadlines,
+    /// Monitors that may have yet to send their heads.
+    heads: Deadlines,
+}
+
+/// A connection that is ready.
+pub struct Ready<'a> {
+    pub key: usize,
+    /// It is to be read to its end.
+    pub to_end: bool,
+    pub connection: &'a mut Connection,
+}
+
+impl Connections {
+    /// No connections.
+    pub fn new(alloc: Global) -> Connections {
+        Connections {
+            opened: Slab::new(alloc),
+            ready: VecDeque::new(alloc),
+            writable: VecDeque::new(alloc),
+            held: VecDeque::new(alloc),
+            sources: BTreeMap::new(alloc),
+            monitors: Vec::new(alloc),
+            logins: Deadlines::new(alloc, LOGIN_LIMIT),
+            heads: Deadlines::new(alloc, HEAD_LIMIT),
+        }
+    }
+
+    /// How many sources stand.
+    pub fn sources(&self) -> usize {
+        self.sources.len()
+    }
+
+    /// How many monitors stand.
+    pub fn monitors(&self) -> usize {
+        self.monitors.len()
+    }
+
+    /// The key of the monitor at a place among those that stand.
+    pub(crate) fn monitor_key(&self, place: usize) -> Option<usize> {
+        Some(*self.monitors.get(place)?)
+    }
+
+    /// A connection comes at a moment (milliseconds), is registered, and is ready. Where the system
+    /// or memory refuses it, which is the only error, it is dropped.
+    pub fn add(
+        &mut self,
+        registry: &Registry,
+        connection: Connection,
+        now: u64,
+    ) -> Result<(), AllocError> {
+        let count = self.opened.len().saturating_add(1);
+        self.ready.reserve(count)?;
+        self.writable.reserve(count)?;
+        self.held.reserve(count)?;
+        let id = match &connection {
+            Connection::Source(source) => Some(source.id()),
+            Connection::Monitor(_) => None,
+        };
+        let opened = OpenConnection {
+            connection,
+            came: now,
+            is_ready: false,
+            is_writable: false,
+            is_held: false,
+            is_closing: false,
+        };
+        let Ok(key) = self.opened.insert(opened) else {
+            return Err(AllocError);
+        };
+        if self.register(registry, key).is_none() || self.count(id, key, now).is_err() {
+            let _ = self.opened.try_remove(key);
+            return Err(AllocError);
+        }
+        self.note_ready(key, false);
+        Ok(())
+    }
+
+    /// Has the wait tell of a connection.
+    fn register(&mut self, registry: &Registry, key: usize) -> Option<()> {
+        let stream = self.opened.get_mut(key)?.connection.stream();
+        let _ = stream.set_nodelay(true);
+        let interest = Interest::READABLE | Interest::WRITABLE;
+        registry.register(stream, Token(key), interest).ok()
+    }
+
+    /// Counts a source, or a monitor, that came at a moment (milliseconds). The only error is out
+    /// of memory.
+    fn count(&mut self, id: Option<u64>, key: usize, now: u64) -> Result<(), AllocError> {
+        let unidentified = Unidentified { key, came: now };
+        match id {
+            Some(id) => {
+                if self.is_unknown(key) {
+                    self.logins.add(unidentified)?;
+                }
+                self.sources.insert(id, key)?;
+            }
+            None => {
+                self.heads.add(unidentified)?;
+                self.monitors.push(key)?;
+            }
+        }
+        Ok(())
+    }
+
+    /// Whether the connection of this key has yet to show what it is.
+    fn is_unknown(&self, key: usize) -> bool {
+        self.opened
+            .get(key)
+            .is_some_and(|opened| opened.connection.is_unknown())
+    }
+
+    /// Whether the connection of this key has had its time by a moment (milliseconds), and has not
+    /// shown what it is.
+    fn is_late(&self, key: usize, now: u64) -> bool
+        ensures { result ≡ true → IsLate self.now now key }
+    {
+        match self.opened.get(key) {
+            Some(opened) => opened.is_late(now),
+            None => false,
+        }
+    }
+
+    /// The key of a connection that had its time by a moment (milliseconds) and has not shown what
+    /// it is: a source that has not logged in, a monitor that has not sent its head.
+    pub fn next_late(&mut self, now: u64) -> Option<usize>
+        ensures { IfSome result (IsLate self.new now) }
+    {
+        for _ in 0..u32::MAX {
+            let unidentified = match self.logins.next(now) {
+                Some(unidentified) => unidentified,
+                None => self.heads.next(now)?,
+            };
+            if self.is_late(unidentified.key, now) {
+                return Some(unidentified.key);
+            }
+        }
+        None
+    }
+
+    /// The connection of this key, if it stands.
+    pub fn at(&mut self, key: usize) -> Option<&mut Connection> {
+        Some(&mut self.opened.get_mut(key)?.connection)
+    }
+
+    /// A connection may be read; to its end, where the system told that it closed or failed.
+    pub fn note_ready(&mut self, key: usize, is_closing: bool) {
+        let Some(opened) = self.opened.get_mut(key) else {
+            return;
+        };
+        opened.is_closing = opened.is_closing || is_closing;
+        if !opened.is_ready {
+            opened.is_ready = true;
+            // Room for it was made when the connection came.
+            let _ = self.ready.push_back(key);
+        }
+    }
+
+    /// A connection has something to be sent, or may take it now.
+    pub fn note_writable(&mut self, key: usize) {
+        let Some(opened) = self.opened.get_mut(key) else {
+            return;
+        };
+        if !opened.is_writable {
+            opened.is_writable = true;
+            // Room for it was made when the connection came.
+            let _ = self.writable.push_back(key);
+        }
+    }
+
+    /// A source's requests wait until others are answered, or settled.
+    pub fn note_held(&mut self, key: usize) {
+        let Some(opened) = self.opened.get_mut(key) else {
+            return;
+        };
+        if !opened.is_held {
+            // Room for it was made when the connection came, but where keys of others that are gone
+            // stand in the queue still: it may take some then.
+            opened.is_held = self.held.push_back(key).is_ok();
+            if !opened.is_held {
+                self.note_ready(key, false);
+            }
+        }
+    }
+
+    /// The sources that are held are ready, in the order in which they came to be held. Nothing is
+    /// kept of why they are held: each is asked again.
+    pub fn free_held(&mut self) {
+        for _ in 0..self.held.len() {
+            self.free_next();
+        }
+    }
+
+    /// The source that is held first is ready.
+    fn free_next(&mut self) {
+        let Some(key) = self.held.pop_front() else {
+            return;
+        };
+        let Some(opened) = self.opened.get_mut(key) else {
+            return;
+        };
+        if mem::replace(&mut opened.is_held, false) {
+            self.note_ready(key, false);
+        }
+    }
+
+    /// The key of the source that has been silent longest at a moment (milliseconds), where it has
+    /// been for so long (milliseconds), and neither it nor the relay owes the other anything. All
+    /// connections are looked at. That costs less than the connection that is wanted.
+    pub fn idlest(&self, limit: u64, now: u64) -> Option<usize>
+        ensures found { IfSome result (λ key. IsIdlest self.now limit now key) }
+        ensures none { IfNone result (NoneIsIdle self.now limit now) }
+    {
+        let mut idlest = None;
+        for (key, opened) in self.opened.iter() {
+            idlest = longer_of(idlest, key, opened);
+        }
+        let Idle { key, since } = idlest?;
+        if now.saturating_sub(since) < limit {
+            return None;
+        }
+        Some(key)
+    }
+
+    /// Whether the source of this id stands.
+    pub fn stands(&self, id: u64) -> bool {
+        self.sources.contains_key(&id)
+    }
+
+    /// How many connections are ready.
+    pub fn ready(&self) -> usize {
+        self.ready.len()
+    }
+
+    /// How many connections may be written.
+    pub fn writable(&self) -> usize {
+        self.writable.len()
+    }
+
+    /// The next connection that is ready.
+    pub fn next_ready(&mut self) -> Option<Ready<'_>> {
+        let key = self.ready.pop_front()?;
+        let opened = self.opened.get_mut(key)?;
+        opened.is_ready = false;
+        Some(Ready {
+            key,
+            to_end: opened.is_closing,
+            connection: &mut opened.connection,
+        })
+    }
+
+    /// The next connection that may be written, with its key.
+    pub fn next_writable(&mut self) -> Option<(usize, &mut Connection)> {
+        let key = self.writable.pop_front()?;
+        let opened = self.opened.get_mut(key)?;
+        opened.is_writable = false;
+        Some((key, &mut opened.connection))
+    }
+
+    /// Tells each receipt to the source whose request it is of, where that still stands.
+    pub(crate) fn tell_all(&mut self, receipts: &[Receipt])
+        ensures { AreTold (sources_in self.old) receipts.now (sources_in self.new) }
+    {
+        for receipt in receipts {
+            self.tell(receipt);
+        }
+    }
+
+    /// Tells a receipt to the source whose request it is of, where that still stands.
+    fn tell(&mut self, receipt: &Receipt)
+        ensures { IsToldOf (sources_in self.old) receipt.now (sources_in self.new) }
+    {
+        let Some(key) = self.sources.get(&receipt.origin().conn) else {
+            return;
+        };
+        let key = *key;
+        let Some(opened) = self.opened.get_mut(key) else {
+            return;
+        };
+        if opened.answer(receipt) {
+            // Room for it was made when the connection came.
+            let _ = self.writable.push_back(key);
+        }
+    }
+
+    /// A connection goes.
+    pub fn remove(&mut self, key: usize) {
+        let Some(opened) = self.opened.try_remove(key) else {
+            return;
+        };
+        match opened.connection {
+            Connection::Source(source) => {
+                self.sources.remove(&source.id());
+            }
+            Connection::Monitor(_) => self.monitors.retain(|monitor| *monitor != key),
+        }
+    }
+}
