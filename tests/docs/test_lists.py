@@ -64,6 +64,72 @@ def test_settings():
     assert names_in_example() == want
 
 
+def ranges_in_code():
+    """Each key that has a range: its least and its greatest value, and its default, as documents write them.
+
+    They stand in the table of keys that fwd_settings is proved against, and the numbers in its ranges.rt.
+    """
+    ranges = text_of("crates/fwd_settings/src/ranges.rt")
+    numbers = {name: int(number) for name, number in re.findall(r"const (\w+): \w+ = ([0-9_]+);", ranges)}
+    numbers["wait"] = "retry_wait"
+    found, table = {}, None
+    for line in re.sub(r"\n {4}", " ", text_of("crates/fwd_settings/specs/Keys.antt")).splitlines():
+        if heading := re.match(r"-- ---- ([a-z.\[\]]+)$", line):
+            table = re.sub(r"\[\w\]", "", heading[1])
+        elif key := re.search(r"(\w+)_key \(codes \"(\w+)\"\) (\w+)(?: (\w+))?(?: (\w+|\(.*\)))?$", line):
+            kind, name, *words = key.groups()
+            least, most, default = (int(word) if word and word.isdigit() else numbers.get(word, word) for word in words)
+            if kind.endswith(("number", "text")):
+                found[f"{table}.{name}"] = least, most, default if kind == "number" else None
+    return found
+
+
+def in_man():
+    """What the manual page says of each key, in words."""
+    text = re.search(r"^\.Sh SETTINGS\n(.*?)^\.Sh ", text_of("packaging/forward_relay.8"), re.MULTILINE | re.DOTALL)[1]
+    said, table, keys = {}, None, []
+    for line in text.splitlines():
+        if named := re.match(r'\.Dq "?\[+([a-z.]+)\]+', line):
+            table = named[1]
+        elif line.startswith(".It Ic "):
+            keys = [f"{table}.{word}" for word in line.split()[2:] if word != ","]
+        else:
+            for key in keys:
+                said[key] = said.get(key, "") + re.sub(r"^\.\w+ ", "", line) + " "
+    return said
+
+
+def in_example():
+    """What examples/relay.toml says of each key: the comment above it and its own line."""
+    said, table, comment, is_over = {}, None, "", False
+    for line in text_of("examples/relay.toml").splitlines():
+        line = line.removeprefix("# ")
+        if named := re.match(r"\[+([a-z.]+)\]+$", line):
+            table = named[1]
+        elif named := re.match(r"(\w+) = ", line):
+            said[f"{table}.{named[1]}"], is_over = f"{comment} {line}", True
+        else:
+            comment, is_over = line if is_over else f"{comment} {line}", False
+    return said
+
+
+def test_ranges():
+    """FORMATS, the manual page and the example have each key's range and default as the code has them."""
+    want = ranges_in_code()
+    assert len(want) > 18
+    table = rows(section(text_of("docs/FORMATS.md"), "## Settings").split("| Fault |")[0])
+    formats = {key: row for row in table for key in row[0].removesuffix(" (list)").split(", ")}
+    man, example = in_man(), in_example()
+    for key, (least, most, default) in want.items():
+        assert f"{least} to {most}" in re.sub(r"(?<=\d),(?=\d)", "", formats[key][1]), key
+        assert f"{least} to {most}" in man[key], key
+        assert f"{least} to {most}" in example[key], key
+        if isinstance(default, int):
+            assert formats[key][2] == str(default), key
+            assert f"; {default}." in man[key], key
+            assert re.search(rf"\b{default}\b", example[key]), key
+
+
 def kinds_in_code():
     """What the lines of the journal begin with."""
     text = "".join(text_of(f"crates/fwd_program/src/{name}.rt") for name in ("journal_line", "journal"))
