@@ -239,7 +239,8 @@ pub fn window_is_kept()
         0 < room s }
     ensures live { (config : Config) (h : History) (o w : ℕ) (l : LiveLane) (x : Worker LiveSession)
         (s : LiveSession) (c : CarriedChunk) → IsReached config h →
-        slice_get (live h).lanes o ≡ Some l → lives.worker_at l w ≡ Some x → x.session ≡ Some s → x.taken ≡ Some c →
+        slice_get (live h).lanes o ≡ Some l →
+        lives.worker_at l w ≡ Some x → x.session ≡ Some s → x.taken ≡ Some c →
         0 < live_room s }
 {}
 

@@ -38,23 +38,25 @@ pub(crate) fn line_at(text: &[u8], place: usize) -> usize {
     line
 }
 
-/// Whether a text is TOML and something stands under a key of it.
-fn shows(alloc: Global, text: &[u8], key: &str) -> bool {
+/// Whether a text is TOML and something stands under a key of it. Where memory is refused, nothing
+/// is known.
+fn shows(alloc: Global, text: &[u8], key: &str) -> Option<bool> {
     match toml::table_from_slice(alloc, text) {
-        Ok(root) => value_at(&root, key).is_some(),
-        Err(_) => false,
+        Ok(root) => Some(value_at(&root, key).is_some()),
+        Err(error) if error.is_memory() => None,
+        Err(_) => Some(false),
     }
 }
 
 /// The line of a key in a text that is TOML: the first, from 1, at whose end the text so far is
-/// TOML and has the key.
+/// TOML and has the key. Where memory is refused, none is found: a later line would be wrong.
 pub(crate) fn line_of(alloc: Global, text: &[u8], key: &str) -> Option<usize> {
     let mut end = 0usize;
     let mut number = 0usize;
     for line in text.split_inclusive(|byte| *byte == b'\n') {
         end = end.saturating_add(line.len()).min(text.len());
         number = number.saturating_add(1);
-        if shows(alloc, &text[..end], key) {
+        if shows(alloc, &text[..end], key)? {
             return Some(number);
         }
     }

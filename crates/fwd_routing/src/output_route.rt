@@ -171,7 +171,8 @@ impl<'a> OutputRoute<'a> {
         ensures routed { (routes : List (List (List ℕ))) → HoldsRouted routes self.old.open_tickets
             → HoldsRouted routes self.new.open_tickets }
         ensures promised { (routes : List (List (List ℕ)))
-            → HoldsRouted routes self.old.open_tickets → TellsPromised routes (sources_in connections.old) (sources_in connections.new) }
+            → HoldsRouted routes self.old.open_tickets
+            → TellsPromised routes (sources_in connections.old) (sources_in connections.new) }
     {
         for _ in 0..BLOCKS {
             if !self.open_tickets.is_due() {

@@ -42,7 +42,7 @@ pub struct Refused {
     pub tag: TagFront,
     /// The bytes of its entries.
     pub size: u64,
-    /// How often it was lost, where 65 stands for every greater count.
+    /// How often it was lost, where 66 stands for every greater count.
     pub losses: u8,
     /// Why its last session ended.
     pub why: LossReason,
