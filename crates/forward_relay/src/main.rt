@@ -1,7 +1,7 @@
 //! The program: `forward_relay run CONFIG [TURNS] | check CONFIG | replay`.
 #![tactic(auto)]
 
-use fwd_program::{Errors, asked_log, run_all};
+use fwd_program::{Errors, Invocation, asked_log, run_all};
 use fwd_script::{buffered, words};
 use std::process::ExitCode;
 
@@ -10,8 +10,7 @@ fn main(rt: HostRuntime) -> ExitCode {
     let mut errors = Errors::new(rt.alloc(), rt, rt.stderr(), log);
     let status = run_all(
         &rt,
-        words(&rt),
-        log,
+        words(&rt).map(|words| Invocation { words, log }),
         &mut rt.reader(),
         &mut buffered(&rt),
         &mut errors,

@@ -61,6 +61,7 @@ use crate::chunk::Chunk;
 use crate::chunk_index::ChunkIndex;
 use crate::chunk_state::ChunkState;
 use crate::entering;
+use crate::entering::Fresh;
 use crate::entry_range::EntryRange;
 use crate::fault::AdmitError;
 use crate::flush::FlushKind;
@@ -313,7 +314,13 @@ impl Buffer {
         let limit = u64::from(self.limits.chunk);
         let first = self.next_number().unwrap_or(0);
         let tag = batch.tag();
-        let fresh = entering::fresh_chunks(alloc, tag, plan.back, limit, moment, first)?;
+        let common = Fresh {
+            tag,
+            limit,
+            since: moment,
+            first,
+        };
+        let fresh = entering::fresh_chunks(alloc, common, plan.back)?;
         let joined = entering::joined_span(self.joined_by(batch, plan), plan.front);
         let spans = entering::spans_of(alloc, joined, &fresh)?;
         let copy = spans.copied(alloc)?;

@@ -50,55 +50,64 @@ use crate::spans::Spans;
 use fwd_base::{Bytes, Seq};
 use std::alloc::{AllocError, Global};
 
+/// What the new chunks of a request have in common.
+#[derive(Clone, Copy)]
+pub(crate) struct Fresh<'a> {
+    pub(crate) tag: &'a [u8],
+    /// The chunk limit, in bytes.
+    pub(crate) limit: u64,
+    /// The moment at which they begin, in milliseconds.
+    pub(crate) since: u64,
+    /// The number of the first of them.
+    pub(crate) first: u64,
+}
+
 /// A chunk of these entries.
 fn new_chunk(
     alloc: Global,
     number: u64,
-    tag: &[u8],
+    fresh: Fresh<'_>,
     part: EntryRange<'_>,
-    since: u64,
     last: bool,
 ) -> Result<Chunk, AllocError>
     requires { size_of (entries_in part) < 2 ^ 32 }
     ensures { IfOk result (λ c. c ≡ record {
       number = number;
-      tag = tag.now;
+      tag = fresh.entry.tag.now;
       entries = entries_in part.entry;
-      since = since;
+      since = fresh.entry.since;
       stage = stage_last last;
       losses = None;
     }) }
 {
     Ok(Chunk {
         number,
-        tag: Bytes::from_slice(alloc, tag)?,
+        tag: Bytes::from_slice(alloc, fresh.tag)?,
         entries: Body::of(alloc, part)?,
-        since,
+        since: fresh.since,
         stage: stage_of(last),
         losses: None,
     })
 }
 
-/// The chunks of a tag's entries that begin with a new one, of which the first has the number.
+/// The chunks of a tag's entries that begin with a new one.
 pub(crate) fn fresh_chunks(
     alloc: Global,
-    tag: &[u8],
+    fresh: Fresh<'_>,
     part: EntryRange<'_>,
-    limit: u64,
-    since: u64,
-    first: u64,
 ) -> Result<Vec<Chunk>, AllocError>
-    requires numbers { first + needed limit (entries_in part) ≤ 2 ^ 64 }
+    requires numbers { fresh.first + needed fresh.limit (entries_in part) ≤ 2 ^ 64 }
     requires size { size_of (entries_in part) < 2 ^ 32 }
     ensures { IfOk result (λ chunks.
-        chunks.items ≡ fresh_of limit tag.now since first (entries_in part.entry)) }
+        chunks.items ≡ fresh_of fresh.entry.limit fresh.entry.tag.now fresh.entry.since
+        fresh.entry.first (entries_in part.entry)) }
 {
     let mut chunks = Vec::new(alloc);
     let mut rest = part;
     while !rest.is_empty() {
-        let (front, others) = rest.cut(limit);
-        let number = first + chunks.len() as u64;
-        chunks.push(new_chunk(alloc, number, tag, front, since, others.is_empty())?)?;
+        let (front, others) = rest.cut(fresh.limit);
+        let number = fresh.first + chunks.len() as u64;
+        chunks.push(new_chunk(alloc, number, fresh, front, others.is_empty())?)?;
         rest = others;
     }
     Ok(chunks)

@@ -325,15 +325,13 @@ impl State {
         }
         let connection = &mut self.connections[place];
         let lane = &mut self.lanes[lane_place];
-        admit_from(
-            alloc,
-            &self.routes,
-            &mut connection.source,
-            lane,
+        let call = AdmitCall {
+            routes: &self.routes,
             conn,
             output,
             now,
-        )
+        };
+        admit_from(alloc, call, &mut connection.source, lane)
     }
 
     /// Open chunks of an output are closed.
@@ -584,36 +582,45 @@ fn lanes_of(alloc: Global, run: [u8; 6], configs: &[OutputConfig]) -> Result<Vec
     Ok(lanes)
 }
 
+/// What a call of `admit` names, and where requests go.
+#[derive(Clone, Copy)]
+struct AdmitCall<'a> {
+    routes: &'a Routes,
+    conn: u64,
+    output: u16,
+    /// The moment, in milliseconds.
+    now: u64,
+}
+
 /// The first request that waits at the source is entered at the output. On an error nothing has
 /// changed.
 fn admit_from(
     alloc: Global,
-    routes: &Routes,
+    call: AdmitCall<'_>,
     source: &mut Source,
     lane: &mut Lane,
-    conn: u64,
-    output: u16,
-    now: u64,
 ) -> Result<Answer, AllocError>
-    requires { IsNew conn source.old.live lane.old }
-    ensures answer { IfOk result (λ a.
-        a ≡ answer_of (admit lives routes.now conn output now source.old.live lane.old)) }
-    ensures sure { is_free
-        (answer_of (admit lives routes.now conn output now source.old.live lane.old)) ≡ true
+    requires { IsNew call.conn source.old.live lane.old }
+    ensures answer { let c = call.entry in IfOk result (λ a. a ≡ answer_of
+        (admit lives c.routes.now c.conn c.output c.now source.old.live lane.old)) }
+    ensures sure { let c = call.entry in is_free (answer_of
+        (admit lives c.routes.now c.conn c.output c.now source.old.live lane.old)) ≡ true
         → IsOk result }
-    ensures source { OnOk result (source.new.live
-        ≡ (state_of (
-          source.old.live,
-          lane.old,
-        ) (admit lives routes.now conn output now source.old.live lane.old)).0) }
-    ensures lane { OnOk result (lane.new
-        ≡ (state_of (
-          source.old.live,
-          lane.old,
-        ) (admit lives routes.now conn output now source.old.live lane.old)).1) }
+    ensures source { let c = call.entry in OnOk result (source.new.live
+        ≡ (state_of (source.old.live, lane.old)
+        (admit lives c.routes.now c.conn c.output c.now source.old.live lane.old)).0) }
+    ensures lane { let c = call.entry in OnOk result (lane.new
+        ≡ (state_of (source.old.live, lane.old)
+        (admit lives c.routes.now c.conn c.output c.now source.old.live lane.old)).1) }
     ensures source_err { OnErr result (source.new ≡ source.old) }
     ensures lane_err { OnErr result (lane.new ≡ lane.old) }
 {
+    let AdmitCall {
+        routes,
+        conn,
+        output,
+        now,
+    } = call;
     let Some((Origin { request, .. }, batch)) = source.peek() else {
         return Ok(Answer::Refused(Refusal::NotNow));
     };

@@ -8,7 +8,9 @@ use crate::readers::ReaderDesk;
 use crate::run_clock::{RunClock, unix_seconds};
 use fwd_links::{Mailbox, Notices};
 use fwd_match::Routes;
-use fwd_routing::{Figures, FlushTimer, Observer, Output, PageParts, Router, SharedTally};
+use fwd_routing::{
+    Figures, FlushTimer, Observer, Output, PageParts, Router, RouterParts, SharedTally,
+};
 use std::alloc::{AllocError, Global};
 use std::rt::Clock;
 use std::sync::Wait;
@@ -84,7 +86,13 @@ impl<'a, R: Wait + Clock> Reader<'a, R> {
             start,
         } = around;
         let ReaderParts { event_loop, timers } = parts;
-        let router = Router::new(rt, alloc, number, routes, outputs, timers)?;
+        let parts = RouterParts {
+            reader: number,
+            routes,
+            outputs,
+            timers,
+        };
+        let router = Router::new(rt, alloc, parts)?;
         Ok(Reader {
             alloc,
             outputs,

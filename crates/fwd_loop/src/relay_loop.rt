@@ -11,13 +11,13 @@ use crate::event_loop::{EventLoop, LoopMemory, MONITORS, SOURCES, WAKER};
 use crate::fault::StartFault;
 use crate::files::{most_files, sources_within};
 use crate::listener::Listener;
+use crate::platform::Platform;
 use crate::random_streams::RandomStreams;
 use crate::reader::ReaderParts;
 use crate::readers::{EventQueue, ReaderDesk};
-use crate::runtime::Runtime;
 use crate::threads::{Beside, Started};
 use crate::turns::{Opened, Own, Shared, Turns, close_all, open};
-use crate::worker_pools::{NextHop, WorkerPools};
+use crate::worker_pools::{NextHop, RunOrigin, WorkerPools};
 use fwd_chunks::Report;
 use fwd_config::config_of;
 use fwd_core::{Config, OutputConfig};
@@ -141,12 +141,11 @@ fn next_hop_of(alloc: Global, output: &OutputSettings) -> Result<NextHop, AllocE
     })
 }
 
-/// The outputs with their next hops and workers, in a run of these bytes.
+/// The outputs with their next hops and workers.
 fn pools_of<R: Net>(
     rt: &R,
     mut pools: WorkerPools,
-    random: &RandomStreams,
-    run: [u8; 6],
+    run: RunOrigin<'_>,
     configs: Vec<OutputConfig>,
     hops: Vec<NextHop>,
 ) -> Result<WorkerPools, StartFault>
@@ -161,7 +160,7 @@ fn pools_of<R: Net>(
     let mut hops = hops.into_iter();
     while let (Some(config), Some(next)) = (configs.next(), hops.next()) {
         let number = pools.outputs.len() as u16;
-        pools.add(rt, random, run, number, config, next)?;
+        pools.add(rt, run, number, config, next)?;
     }
     Ok(pools)
 }
@@ -261,8 +260,8 @@ impl Loop {
         take_large_piece(alloc);
         let address = address_of(rt, &settings);
         let random = RandomStreams::new(rt, settings.relay.seed)?;
-        let run = match settings.relay.run_id {
-            Some(run) => run,
+        let id = match settings.relay.run_id {
+            Some(id) => id,
             None => random.run_id(),
         };
         let hops = next_hops_of(alloc, settings.outputs.as_slice())?;
@@ -282,7 +281,11 @@ impl Loop {
         let (mut event_loop, mailbox) = event_loop_of(rt, alloc, &signs, address.idle_limit)?;
         event_loop.acceptor = Some(acceptor_of(rt, alloc, &event_loop.poll, address, setup)?);
         let none = WorkerPools::new(alloc, address.others);
-        let pools = pools_of(rt, none, &random, run, outputs.into_vec(), hops)?;
+        let run = RunOrigin {
+            random: &random,
+            id,
+        };
+        let pools = pools_of(rt, none, run, outputs.into_vec(), hops)?;
         let first = ReaderParts {
             event_loop,
             timers: pools.timers()?,
@@ -331,7 +334,7 @@ impl Loop {
     ///
     /// It fails with `Thread` where the thread of a reader or worker cannot be had, with `Poll`
     /// where a wait failed, and with `Memory`. All threads that were started have ended then, too.
-    pub fn run<R: Runtime>(self, rt: &R, turns: u64) -> Result<Vec<Report>, StartFault>
+    pub fn run<R: Platform>(self, rt: &R, turns: u64) -> Result<Vec<Report>, StartFault>
         ensures count { IfOk result (λ reports. length reports.items ≡ length self) }
         ensures add_up { IfOk result (λ reports. AddUp reports.items) }
     {
@@ -340,7 +343,7 @@ impl Loop {
 
     /// The same, and an observer is told what the run comes to.
     #[tactic(auto, using(crate::proofs::Outputs::shown_count))]
-    pub fn run_watched<R: Runtime, W: Observer>(
+    pub fn run_watched<R: Platform, W: Observer>(
         self,
         rt: &R,
         observer: &mut W,
@@ -372,7 +375,7 @@ impl Loop {
 
 /// Makes so many turns in this thread, and as many in each thread beside it, until all have ended;
 /// and has monitors' pages made in another one, where there can be one.
-fn serve<R: Runtime, W: Observer>(
+fn serve<R: Platform, W: Observer>(
     rt: &R,
     turns: &mut Turns<'_, R>,
     beside: Beside<'_, '_, R>,

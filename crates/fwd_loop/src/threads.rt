@@ -1,7 +1,7 @@
 //! The threads of a relay beside its first reader's.
 
 use crate::fault::StartFault;
-use crate::runtime::Runtime;
+use crate::platform::Platform;
 use crate::turns::{ReaderTurns, WorkerTurns};
 use std::alloc::{AllocError, Global};
 use std::rt::Clock;
@@ -69,7 +69,7 @@ impl Started {
     /// Starts a thread for each of these, which makes so many turns in it.
     ///
     /// It fails with `Thread` where a thread cannot be had. Those that were started work then, too.
-    pub fn start<'s, 'a, E, R: Runtime>(
+    pub fn start<'s, 'a, E, R: Platform>(
         &mut self,
         scope: &Scope<'s, E>,
         rt: &'s R,

@@ -44,6 +44,13 @@ impl Model for NextHop {
     ghost view = { λ next. record { servers = next.servers.items; is_patient = next.is_patient } };
 }
 
+/// What a run has of its own: where its random bytes come from, and the bytes that its chunks have.
+#[derive(Clone, Copy)]
+pub(crate) struct RunOrigin<'a> {
+    pub random: &'a RandomStreams,
+    pub id: [u8; 6],
+}
+
 /// What an output's workers share.
 #[derive(Drop)]
 struct Pool<'a> {
@@ -69,12 +76,11 @@ impl WorkerPools {
         }
     }
 
-    /// The output of this number, with its workers, in a run of these bytes.
+    /// The output of this number, with its workers.
     pub fn add<R: Net>(
         &mut self,
         rt: &R,
-        random: &RandomStreams,
-        run: [u8; 6],
+        run: RunOrigin<'_>,
         number: u16,
         config: OutputConfig,
         next: NextHop,
@@ -94,7 +100,7 @@ impl WorkerPools {
             acks,
             login,
         } = config;
-        let state = OutputState::new(self.alloc, limits, run, number, standby.as_slice())?;
+        let state = OutputState::new(self.alloc, limits, run.id, number, standby.as_slice())?;
         let shared = SharedOutput::new(Locked::new(
             self.alloc,
             state,
@@ -103,7 +109,7 @@ impl WorkerPools {
         ));
         let login = Arc::new(self.alloc, login)?;
         let pool = Pool {
-            random,
+            random: run.random,
             number,
             workers,
             login,

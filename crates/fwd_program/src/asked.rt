@@ -1,10 +1,11 @@
 //! When the program's words ask for a run.
 
-ghost use Rattle.std.specs.Prelude.{◌≡◌, ℕ, List, map, MatchOption};
+ghost use Rattle.std.specs.Prelude.{◌≡◌, ℕ, List, map, MatchOption, IfSome};
 ghost use Rattle.std.specs.String.{string_bytes};
 ghost use Rattle.fwd_script.specs.Program.{words_behind};
 ghost use Rattle.fwd_program.specs.Asked.{AsksRun, turns_of};
 
+use crate::journal::Log;
 use fwd_script::number;
 
 /// What a run is asked for.
@@ -14,6 +15,8 @@ pub struct Run<'a> {
     pub path: &'a str,
     /// How many turns the loop and each worker make.
     pub turns: u64,
+    /// Whether it says what it comes to.
+    pub log: Log,
 }
 
 /// How many turns the words behind the path ask for.
@@ -30,8 +33,9 @@ fn turns_in(behind: &[String]) -> Option<u64>
 /// The run that words ask for, the program's own name before them: `run CONFIG`, or
 /// `run CONFIG TURNS` with a number below 2^64 in decimal, with no sign and no leading zero. It
 /// takes no memory.
-pub fn asked_run(words: &[String]) -> Option<Run<'_>>
-    ensures { MatchOption result
+pub fn asked_run(words: &[String], log: Log) -> Option<Run<'_>>
+    ensures log { IfSome result (λ run. run.log ≡ log) }
+    ensures asked { MatchOption result
         ((path : List ℕ) (turns : ℕ)
         → ¬ AsksRun (words_behind (map string_bytes words.now)) path turns)
         (λ run. AsksRun (words_behind (map string_bytes words.now)) run.path.now run.turns) }
@@ -42,7 +46,7 @@ pub fn asked_run(words: &[String]) -> Option<Run<'_>>
     if words[1].as_str() == "run" {
         let turns = turns_in(&words[3..])?;
         let path = words[2].as_str();
-        Some(Run { path, turns })
+        Some(Run { path, turns, log })
     } else {
         None
     }

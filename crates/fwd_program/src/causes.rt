@@ -6,12 +6,13 @@
 use crate::ending::RunEnd;
 use crate::file::SettingsFile;
 use crate::key_lines::{line_at, line_of, value_at};
+use crate::key_tables::{allowed_in, kind_of, parent_of, table_having};
 use crate::saying::say;
-use crate::sections::{Allowed, Section};
 use fwd_loop::StartFault;
 use fwd_match::{Pattern, PatternFault};
 use fwd_settings::SettingsFault;
 use fwd_settings::ranges::SERVERS_MAX;
+use fwd_settings::tables::Allowed;
 use std::alloc::Global;
 use std::io::Write;
 use std::net::{Net, SocketAddr, TcpListener};
@@ -65,9 +66,9 @@ impl fmt::Display for Why<'_> {
 
 /// What may stand under a key.
 fn tell_allowed<W: fmt::Write>(f: &mut fmt::Formatter<W>, key: &str, what: &str) -> fmt::Result {
-    let (section, name) = Section::of_key(key);
+    let (table, name) = kind_of(key);
     write!(f, "{key} {what}")?;
-    match section.allowed(name) {
+    match allowed_in(table, name) {
         Some(allowed) => write!(f, ": allowed is {allowed}"),
         None => Ok(()),
     }
@@ -75,19 +76,19 @@ fn tell_allowed<W: fmt::Write>(f: &mut fmt::Formatter<W>, key: &str, what: &str)
 
 /// Where a key would stand that is none here, or which keys are.
 fn tell_unknown<W: fmt::Write>(f: &mut fmt::Formatter<W>, key: &str) -> fmt::Result {
-    let (section, name) = Section::of_key(key);
+    let (table, name) = kind_of(key);
     write!(f, "{key} is no key: ")?;
-    if let Some(parent) = section.parent() {
-        if parent.allowed(name).is_some() {
-            return write!(f, "{name} stands in {parent}, above {section}");
+    if let Some(parent) = parent_of(table) {
+        if allowed_in(parent, name).is_some() {
+            return write!(f, "{name} stands in {parent}, above {table}");
         }
     }
-    if let Some(other) = Section::having(name) {
+    if let Some(other) = table_having(name) {
         return write!(f, "{name} stands in {other}");
     }
-    write!(f, "{section} has")?;
+    write!(f, "{table} has")?;
     let mut mark = " ";
-    for rule in section.rules() {
+    for rule in table.rules() {
         let name = rule.name;
         write!(f, "{mark}{name}")?;
         mark = ", ";
@@ -130,13 +131,13 @@ impl fmt::Display for Unheard {
 
 /// Why the value under a key is out of its range.
 fn out_of_range<'a>(root: &Table, key: &'a str) -> Why<'a> {
-    let (section, name) = Section::of_key(key);
+    let (table, name) = kind_of(key);
     let listed = match value_at(root, key) {
         Some(value) => value.as_array().map_or(0, |members| members.len()),
         None => 0,
     };
     let is_list = 1 <= listed && listed <= SERVERS_MAX;
-    match section.allowed(name) {
+    match allowed_in(table, name) {
         Some(Allowed::Users) if listed > 0 => Why::Keyless(key),
         Some(Allowed::Servers) if is_list => Why::Standbys(key),
         _ => Why::Wrong(key),

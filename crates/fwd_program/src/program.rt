@@ -15,7 +15,7 @@ use crate::checking::check_said;
 use crate::ending::RunEnd;
 use crate::journal::Log;
 use crate::running::run_file;
-use fwd_loop::Runtime;
+use fwd_loop::Platform;
 use fwd_script::{Command, End, Status, asked, run_program, tell as tell_end};
 use std::io;
 use std::io::{ErrorKind, Read, Write};
@@ -50,47 +50,54 @@ fn do_other<R: Files + AllocGlobal, I: Read, W: Write, E: Write>(
             let _told = tell_end(errors, &end);
             end.exit_code()
         }
-        _ => run_program(rt.alloc(), rt, Ok(words), input, output, errors),
+        _ => run_program(rt, Ok(words), input, output, errors),
     }
 }
 
+/// What the program is called with: its words, its own name first, and whether a run says what it
+/// comes to.
+#[derive(Drop)]
+pub struct Invocation {
+    pub words: Vec<String>,
+    pub log: Log,
+}
+
 /// Does what words ask for, and returns the exit status.
-fn run_words<R: Runtime + Files, I: Read, W: Write, E: Write>(
+fn run_words<R: Platform + Files, I: Read, W: Write, E: Write>(
     rt: &R,
-    words: Vec<String>,
-    log: Log,
+    call: Invocation,
     input: &mut I,
     output: &mut W,
     errors: &mut E,
 ) -> u8
     ensures run { (path : List ℕ) (turns : ℕ)
-        → AsksRun (words_behind (map string_bytes words.items)) path turns
+        → AsksRun (words_behind (map string_bytes call.words.items)) path turns
         → (end : TheEnd) × (result ≡ run_code end) × (text : List ℕ)
         × Runs end text (W.contents output.old) (W.contents output.new) }
     ensures other { ((path : List ℕ) (turns : ℕ)
-        → ¬ AsksRun (words_behind (map string_bytes words.items)) path turns)
+        → ¬ AsksRun (words_behind (map string_bytes call.words.items)) path turns)
         → (end : End) × (result ≡ end_code end)
-        × Performs (words_behind (map string_bytes words.items))
+        × Performs (words_behind (map string_bytes call.words.items))
         end (I.remaining input.old) (W.contents output.old) (W.contents output.new) }
 {
-    match asked_run(words.as_slice()) {
+    match asked_run(call.words.as_slice(), call.log) {
         Some(run) => {
-            let end = run_file(rt, run, log, output, errors);
+            let end = run_file(rt, run, output, errors);
             let _told = tell(errors, &end);
             end.exit_code()
         }
-        None => do_other(rt, words, input, output, errors),
+        None => do_other(rt, call.words, input, output, errors),
     }
 }
 
 /// The whole program, but for where its words and streams come from: where the words ask for a run
-/// it runs, as `run_file` does with this log, and tells how that ended; all other words it answers
-/// as `fwd_script::run_program` does, and says of a check why the settings are refused, or what is
-/// foolish in them. It returns the exit status. An end that cannot be told has
-/// the same exit status.
+/// it runs, as `run_file` does, and tells how that ended; all other words it answers as
+/// `fwd_script::run_program` does, and says of a check why the settings are refused, or what is
+/// foolish in them. It returns the exit status. An end that cannot be told has the same exit
+/// status.
 ///
-/// What it asks of its runtime is that of a `Runtime`, in full: a caller with a runtime of its own has
-/// to meet its sockets' types by name.
+/// What it asks of its runtime is that of a `Platform`, in full: a caller with a runtime of its own
+/// has to meet its sockets' types by name.
 pub fn run_all<
     R: Net<Listener = TcpListener, Stream = TcpStream>
         + Threads
@@ -102,32 +109,25 @@ pub fn run_all<
     I: Read,
     W: Write,
     E: Write,
->(
-    rt: &R,
-    words: io::Result<Vec<String>>,
-    log: Log,
-    input: &mut I,
-    output: &mut W,
-    errors: &mut E,
-) -> u8
-    ensures run { IfOk words (λ list. (path : List ℕ) (turns : ℕ)
-        → AsksRun (words_behind (map string_bytes list.items)) path turns
+>(rt: &R, call: io::Result<Invocation>, input: &mut I, output: &mut W, errors: &mut E) -> u8
+    ensures run { IfOk call (λ call. (path : List ℕ) (turns : ℕ)
+        → AsksRun (words_behind (map string_bytes call.words.items)) path turns
         → (end : TheEnd) × (result ≡ run_code end) × (text : List ℕ)
         × Runs end text (W.contents output.old) (W.contents output.new)) }
-    ensures asked { IfOk words (λ list.
+    ensures asked { IfOk call (λ call.
         ((path : List ℕ) (turns : ℕ)
-        → ¬ AsksRun (words_behind (map string_bytes list.items)) path turns)
+        → ¬ AsksRun (words_behind (map string_bytes call.words.items)) path turns)
         → (end : End) × (result ≡ end_code end)
-        × Performs (words_behind (map string_bytes list.items))
+        × Performs (words_behind (map string_bytes call.words.items))
         end (I.remaining input.old) (W.contents output.old) (W.contents output.new)) }
-    ensures memory { IfErr words (λ error. error_kind error ≡ ErrorKind.OutOfMemory
+    ensures memory { IfErr call (λ error. error_kind error ≡ ErrorKind.OutOfMemory
         → result ≡ 4) }
-    ensures other { IfErr words (λ error. error_kind error ≢ ErrorKind.OutOfMemory
+    ensures other { IfErr call (λ error. error_kind error ≢ ErrorKind.OutOfMemory
         → result ≡ 2) }
-    ensures kept { IfErr words (λ _. Keeps (W.contents output.old) (W.contents output.new)) }
+    ensures kept { IfErr call (λ _. Keeps (W.contents output.old) (W.contents output.new)) }
 {
-    match words {
-        Ok(words) => run_words(rt, words, log, input, output, errors),
-        Err(error) => run_program(rt.alloc(), rt, Err(error), input, output, errors),
+    match call {
+        Ok(call) => run_words(rt, call, input, output, errors),
+        Err(error) => run_program(rt, Err(error), input, output, errors),
     }
 }

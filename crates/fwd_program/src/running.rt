@@ -13,7 +13,7 @@ use crate::cautions::say_of_relay;
 use crate::ending::RunEnd;
 use crate::file::SettingsFile;
 use crate::journal::{Journal, Log};
-use fwd_loop::{Loop, Observer, Runtime};
+use fwd_loop::{Loop, Observer, Platform};
 use fwd_monitor::page;
 use fwd_script::{Status, flush, write_all};
 use fwd_settings::{Settings, SettingsFault};
@@ -40,7 +40,7 @@ fn settings_at<R: Files + AllocGlobal, E: Write>(
 
 /// Runs by the settings that were found, under an observer, and writes the page of the last
 /// reports: nothing else is written before.
-fn run_found<R: Runtime + Files, V: Observer, W: Write>(
+fn run_found<R: Platform + Files, V: Observer, W: Write>(
     rt: &R,
     found: Result<Settings, SettingsFault>,
     turns: u64,
@@ -62,11 +62,10 @@ fn run_found<R: Runtime + Files, V: Observer, W: Write>(
 
 /// The same, under a journal where the log asks for one, which begins with what runs and ends with
 /// why it does no more.
-fn run_told<R: Runtime + Files, W: Write, E: Write>(
+fn run_told<R: Platform + Files, W: Write, E: Write>(
     rt: &R,
     found: Result<Settings, SettingsFault>,
     run: Run<'_>,
-    log: Log,
     output: &mut W,
     errors: &mut E,
 ) -> Result<(), RunEnd>
@@ -75,7 +74,7 @@ fn run_told<R: Runtime + Files, W: Write, E: Write>(
         (λ _. Runs (ends.Ran statuses.Done) text (W.contents output.old) (W.contents output.new))
         (λ end. Runs end text (W.contents output.old) (W.contents output.new)) }
 {
-    match log {
+    match run.log {
         Log::Off => run_found(rt, found, run.turns, &mut (), output),
         Log::Info => {
             let mut journal = Journal::new(rt, errors);
@@ -102,10 +101,9 @@ fn ended(ran: Result<(), RunEnd>) -> RunEnd
 
 /// Runs by the settings in a file, under a journal where the log asks for one, and writes the page
 /// of the last reports. It says why a run came to no more.
-fn run_logged<R: Runtime + Files, W: Write, E: Write>(
+fn run_logged<R: Platform + Files, W: Write, E: Write>(
     rt: &R,
     run: Run<'_>,
-    log: Log,
     output: &mut W,
     errors: &mut E,
 ) -> RunEnd
@@ -113,7 +111,7 @@ fn run_logged<R: Runtime + Files, W: Write, E: Write>(
         × Runs result text (W.contents output.old) (W.contents output.new) }
 {
     let found = settings_at(rt, run.path, errors);
-    let ran = run_told(rt, found, run, log, output, errors);
+    let ran = run_told(rt, found, run, output, errors);
     say_unheard(rt, &ran, errors);
     ended(ran)
 }
@@ -124,17 +122,16 @@ fn run_logged<R: Runtime + Files, W: Write, E: Write>(
 /// was written or a front of the page; out of memory is `Ran(Memory)`. Behind all other ends but
 /// `Done` nothing was written. The errors say why settings or an address are refused and, where the
 /// log asks for it, what the run comes to.
-pub fn run_file<R: Runtime + Files, W: Write, E: Write>(
+pub fn run_file<R: Platform + Files, W: Write, E: Write>(
     rt: &R,
     run: Run<'_>,
-    log: Log,
     output: &mut W,
     errors: &mut E,
 ) -> RunEnd
     ensures { (text : List ℕ)
         × Runs result text (W.contents output.old) (W.contents output.new) }
 {
-    match run_logged(rt, run, log, output, errors) {
+    match run_logged(rt, run, output, errors) {
         RunEnd::Ran(status) => RunEnd::Ran(status.flushed(flush(output))),
         end => end,
     }

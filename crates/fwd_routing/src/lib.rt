@@ -33,6 +33,6 @@ pub use monitor_peer::{MonitorPeer, MonitorVisit};
 pub use observer::{JournalEvent, ListenerKind, MemoryFor, Observer};
 pub use output::{Output, reports_of};
 pub use page_desk::PageDesk;
-pub use router::Router;
+pub use router::{Router, RouterParts};
 pub use shared_tally::{SharedTally, TallyObserver};
 pub use waiting_line::WaitingLine;

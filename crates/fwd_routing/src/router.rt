@@ -98,17 +98,29 @@ fn let_go<R: Wait>(
     has_left && intake.is_awaited()
 }
 
+/// What a router is made of: the number of its reader, where requests go, and the timer of each
+/// output.
+#[derive(Drop)]
+pub struct RouterParts<'a> {
+    pub reader: usize,
+    pub routes: &'a Routes,
+    pub outputs: &'a [Output],
+    pub timers: &'a mut [FlushTimer],
+}
+
 impl<'a> Router<'a> {
-    /// The outputs as the reader of this number sees them, and the timer of each, where no ticket
-    /// is out. The only error is out of memory.
+    /// The outputs as a reader sees them, where no ticket is out. The only error is out of memory.
     pub fn new<R: Wait>(
         rt: &R,
         alloc: Global,
-        reader: usize,
-        routes: &'a Routes,
-        outputs: &'a [Output],
-        timers: &'a mut [FlushTimer],
+        parts: RouterParts<'a>,
     ) -> Result<Router<'a>, AllocError> {
+        let RouterParts {
+            reader,
+            routes,
+            outputs,
+            timers,
+        } = parts;
         let mut intakes = Vec::with_capacity(alloc, outputs.len())?;
         for output in outputs {
             intakes.push(Intake::new(alloc, output, reader))?;

@@ -183,24 +183,23 @@ pub fn tell<E: Write>(errors: &mut E, end: &End) -> io::Result<()>
 /// The whole program, but for where its words and streams come from: it does what the words ask
 /// for, as `perform` does, tells how that ended, as `tell` does, and returns the exit status. An
 /// end that cannot be told has the same exit status.
-pub fn run_program<F: Files, R: Read, W: Write, E: Write>(
-    alloc: Global,
-    files: &F,
+pub fn run_program<R: Files + AllocGlobal, I: Read, W: Write, E: Write>(
+    rt: &R,
     words: io::Result<Vec<String>>,
-    input: &mut R,
+    input: &mut I,
     output: &mut W,
     errors: &mut E,
 ) -> u8
     ensures asked { IfOk words (λ list. (end : End) × (result ≡ end_code end)
         × Performs (words_behind (map string_bytes list.items))
-        end (R.remaining input.old) (W.contents output.old) (W.contents output.new)) }
+        end (I.remaining input.old) (W.contents output.old) (W.contents output.new)) }
     ensures memory { IfErr words (λ error. error_kind error ≡ ErrorKind.OutOfMemory
         → result ≡ 4) }
     ensures other { IfErr words (λ error. error_kind error ≢ ErrorKind.OutOfMemory
         → result ≡ 2) }
     ensures kept { IfErr words (λ _. Keeps (W.contents output.old) (W.contents output.new)) }
 {
-    let end = perform(alloc, files, words, input, output);
+    let end = perform(rt.alloc(), rt, words, input, output);
     let _told = tell(errors, &end);
     end.exit_code()
 }

@@ -7,6 +7,8 @@ use Rattle.toml.specs.Data.{Data, table, Members, no_members, get_member, as_tab
 use Rattle.fwd_settings.specs.declared.fault.SettingsFault.{SettingsFault}
 use Rattle.fwd_settings.specs.declared.fault.SettingsFault.TheVariants.{WrongKind, OutOfRange}
 use Rattle.fwd_settings.specs.declared.table_path.TablePath.TheVariants.{Relay, User, Output, Server}
+use Rattle.fwd_settings.specs.declared.tables.TableKind.{TableKind}
+use Rattle.fwd_settings.specs.declared.tables.TableKind.TheVariants as kind
 use Rattle.fwd_settings.specs.declared.settings.RelaySettings.{RelaySettings}
 use Rattle.fwd_settings.specs.declared.settings.UserSettings.{UserSettings}
 use Rattle.fwd_settings.specs.declared.settings.OutputSettings.{OutputSettings}
@@ -390,3 +392,13 @@ output_settings value = let output = table_of value in record {
   servers = servers_in output;
   full = setting_at output full;
 }
+
+-- ---- all kinds of table
+
+-- the names of the keys of a kind of table
+abbrev pub names_of : TableKind → List (List ℕ)
+names_of kind.Root = root_names
+names_of kind.Relay = relay_names
+names_of kind.User = user_names
+names_of kind.Output = output_names
+names_of kind.Server = server_names

@@ -11,6 +11,7 @@ mod section;
 mod server;
 mod settings;
 mod table_path;
+pub mod tables;
 mod unknown;
 mod user;
 mod values;

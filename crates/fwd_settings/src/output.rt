@@ -20,25 +20,6 @@ use fwd_base::{Seq, Text};
 use std::alloc::Global;
 use toml::{Table, Value};
 
-/// The keys of an output's table, in the order in which they are judged.
-pub const OUTPUT_KEYS: [&str; 15] = [
-    "match",
-    "workers",
-    "chunk_limit",
-    "total_limit",
-    "flush_interval",
-    "retry_wait",
-    "retry_max",
-    "ack_wait",
-    "window",
-    "hostname",
-    "shared_key",
-    "username",
-    "password",
-    "server",
-    "full",
-];
-
 /// How much an output holds.
 #[derive(Clone, Copy)]
 struct Sizes {

@@ -22,23 +22,6 @@ use std::alloc::Global;
 use std::net::{Ipv4Addr, SocketAddr, SocketAddrV4};
 use toml::Table;
 
-/// The keys of the table `relay`, in the order in which they are judged.
-pub const RELAY_KEYS: [&str; 13] = [
-    "listen",
-    "monitor",
-    "hostname",
-    "shared_key",
-    "run_id",
-    "seed",
-    "connections",
-    "message_limit",
-    "depth",
-    "readers",
-    "user",
-    "metrics",
-    "idle_limit",
-];
-
 /// 127.0.0.1:24224.
 fn home() -> SocketAddr
     ensures { result ≡ home }

@@ -16,9 +16,6 @@ use fwd_base::Seq;
 use std::alloc::Global;
 use toml::{Table, Value};
 
-/// The keys of a server's table, in the order in which they are judged.
-pub const SERVER_KEYS: [&str; 2] = ["address", "standby"];
-
 /// The settings in a server's table.
 fn server_in(
     alloc: Global,

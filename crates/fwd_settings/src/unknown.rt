@@ -2,24 +2,20 @@
 //! `output[12].z` is less than `output[1].b`. An unknown table is one key.
 
 ghost use Rattle.std.specs.Prelude.{◌≡◌, [], ◌∷◌, map, IfOk, codes, Some};
-ghost use Rattle.std.specs.List.{cons_option};
+ghost use Rattle.std.specs.List.{cons_option, list_any};
+ghost use Rattle.std.specs.Str.{bytes_eq};
 ghost use Rattle.toml.specs.View.{view, table_view};
 ghost use Rattle.fwd_settings.specs.Kinds.{list_in};
 ghost use Rattle.fwd_settings.specs.Keys.{table_in};
 ghost use Rattle.fwd_settings.specs.Unknown as spec;
 
-use crate::output::OUTPUT_KEYS;
-use crate::relay::RELAY_KEYS;
 use crate::section::Section;
-use crate::server::SERVER_KEYS;
 use crate::table_path::TablePath;
-use crate::user::USER_KEYS;
+use crate::tables::{KeyRule, TableKind};
 use crate::values::array_in;
 use fwd_base::Text;
 use std::alloc::{AllocError, Global};
 use toml::{Table, Value};
-
-const ROOT_KEYS: [&str; 2] = ["relay", "output"];
 
 /// The least of a key and of one more, if there is one.
 #[tactic(auto, using(crate::proofs::LeastLemmas::lesser_steps))]
@@ -36,30 +32,44 @@ fn lesser(least: Option<Text>, key: Text) -> Text
     }
 }
 
-/// Whether a name is none of these.
-#[tactic(auto, using(crate::proofs::UnknownLemmas::any_shown))]
-fn is_unknown(names: &[&str], name: &str) -> bool
-    ensures { result ≡ spec.is_unknown (map (λ known. known.now) names.now) name.now }
+/// Whether a key has this name.
+fn is_named(rule: &KeyRule, name: &str) -> bool
+    ensures { result ≡ bytes_eq rule.now.name.now name.now }
 {
-    !names.contains(&name)
+    rule.name == name
 }
 
-/// The least of the keys of a table that are none of these names, and of one key more.
+/// Whether one of these keys has this name.
+fn is_among(rules: &[KeyRule], name: &str) -> bool
+    ensures { result ≡ list_any (λ rule. bytes_eq rule.name.now name.now) rules.now }
+{
+    rules.iter().any(|rule| is_named(rule, name))
+}
+
+/// Whether a name is that of none of these keys.
+#[tactic(auto, using(crate::proofs::UnknownLemmas::any_shown))]
+fn is_unknown(rules: &[KeyRule], name: &str) -> bool
+    ensures { result ≡ spec.is_unknown (map (λ rule. rule.name.now) rules.now) name.now }
+{
+    !is_among(rules, name)
+}
+
+/// The least of the keys of a table that are none of these, and of one key more.
 #[tactic(auto, using(crate::proofs::UnknownLemmas::name_steps))]
 fn least_under(
     alloc: Global,
     place: TablePath,
-    names: &[&str],
+    rules: &[KeyRule],
     table: &Table,
     least: Option<Text>,
 ) -> Result<Option<Text>, AllocError>
-    ensures { IfOk result (λ key. let known = map (λ known. known.now) names.now in
+    ensures { IfOk result (λ key. let known = map (λ rule. rule.name.now) rules.now in
         key ≡ spec.least
         (cons_option least (spec.unknown_under place known (table_view table.now)))) }
 {
     let mut least = least;
     for name in table.keys() {
-        if is_unknown(names, name.as_str()) {
+        if is_unknown(rules, name.as_str()) {
             let key = place.key(alloc, name.as_str())?;
             least = Some(lesser(least, key));
         }
@@ -90,7 +100,13 @@ fn least_in_user(
         key ≡ spec.least (cons_option least (spec.unknown_in_user user (view value.now)))) }
 {
     match value.as_table() {
-        Some(table) => least_under(alloc, TablePath::User(user), &USER_KEYS, table, least),
+        Some(table) => least_under(
+            alloc,
+            TablePath::User(user),
+            TableKind::User.rules(),
+            table,
+            least,
+        ),
         None => Ok(least),
     }
 }
@@ -130,7 +146,7 @@ fn least_in_server(
         Some(table) => least_under(
             alloc,
             TablePath::Server(output, server),
-            &SERVER_KEYS,
+            TableKind::Server.rules(),
             table,
             least,
         ),
@@ -173,7 +189,7 @@ fn least_in_output(
         return Ok(least);
     };
     let place = TablePath::Output(output);
-    let least = least_under(alloc, place, &OUTPUT_KEYS, table, least)?;
+    let least = least_under(alloc, place, TableKind::Output.rules(), table, least)?;
     least_in_servers(alloc, output, members_of(table, place, "server"), least)
 }
 
@@ -204,7 +220,13 @@ fn least_in_relay_table(
     ensures { IfOk result (λ key.
         key ≡ spec.least (cons_option least (spec.unknown_in_relay (table_view relay.now)))) }
 {
-    let least = least_under(alloc, TablePath::Relay, &RELAY_KEYS, relay, least)?;
+    let least = least_under(
+        alloc,
+        TablePath::Relay,
+        TableKind::Relay.rules(),
+        relay,
+        least,
+    )?;
     least_in_users(alloc, members_of(relay, TablePath::Relay, "user"), least)
 }
 
@@ -236,7 +258,7 @@ fn least_in_relay(
 pub fn least_unknown(alloc: Global, root: &Table) -> Result<Option<Text>, AllocError>
     ensures { IfOk result (λ key. key ≡ spec.least (spec.unknown_keys (table_view root.now))) }
 {
-    let least = least_under(alloc, TablePath::Root, &ROOT_KEYS, root, None)?;
+    let least = least_under(alloc, TablePath::Root, TableKind::Root.rules(), root, None)?;
     let least = least_in_relay(alloc, root, least)?;
     least_in_outputs(alloc, members_of(root, TablePath::Root, "output"), least)
 }

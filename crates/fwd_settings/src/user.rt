@@ -17,9 +17,6 @@ use fwd_base::Seq;
 use std::alloc::Global;
 use toml::{Table, Value};
 
-/// The keys of a user's table, in the order in which they are judged.
-pub const USER_KEYS: [&str; 2] = ["name", "password"];
-
 /// The settings in a user's table.
 fn user_in(alloc: Global, user: usize, table: &Table) -> Result<UserSettings, SettingsFault>
     ensures { Answers (first (user_table user (table_view table.now)))

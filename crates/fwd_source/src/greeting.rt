@@ -10,6 +10,7 @@ ghost use Rattle.fwd_source.specs.Hearing.{shown, IsEndOf, EndsIn, Faults, Greet
 
 use crate::fault::SourceFault;
 use crate::hearing::{SourceHeard, Unparsed, failed, hear};
+use crate::taking::RequestContext;
 use fwd_base::Bytes;
 use fwd_handshake::{Nonces, PingVerdict, Security, judge_ping};
 use fwd_msgpack::{Next, Scanner};
@@ -95,26 +96,32 @@ fn greet<'a>(
     }
 }
 
-/// What the bytes say, on a connection of which `count` requests came before, where a PING is
-/// awaited. Of the scanner, see `hear`.
+/// What the bytes say where a PING is awaited, whatever the context says of that. Of the scanner,
+/// see `hear`.
 pub fn hear_greeting<'a>(
-    alloc: Global,
-    security: &Security,
-    nonces: &Nonces,
-    count: u64,
+    context: &RequestContext<'_>,
     unparsed: Unparsed<'a>,
     scanner: &mut Scanner,
 ) -> Result<SourceHeard<'a>, AllocError>
-    requires count { count < 2 ^ 64 }
+    requires count { context.now.count < 2 ^ 64 }
     requires behind { IsBehind scanner.old.limits
         (take unparsed.scanned unparsed.bytes.now) scanner.old }
     ensures value { IfOk result (λ heard. shown heard ≡ judged_of scanner.old.limits
-        (Some (ping_verdict security.now nonces.now)) count unparsed.entry.bytes.now) }
+        (Some (ping_verdict context.now.security.now context.now.nonces.now))
+        context.now.count unparsed.entry.bytes.now) }
     ensures end { IfOk result (λ heard. IsEndOf heard.rest.now unparsed.entry.bytes.now) }
     ensures after { IfOk result (λ heard. StandsOver scanner.old.limits heard scanner.new) }
     ensures limits { scanner.new.limits ≡ scanner.old.limits }
-    ensures room { IfOk result (λ heard. count + length heard.requests.items < 2 ^ 64) }
+    ensures room { IfOk result (λ heard.
+        context.now.count + length heard.requests.items < 2 ^ 64) }
 {
+    let RequestContext {
+        alloc,
+        security,
+        nonces,
+        count,
+        ..
+    } = *context;
     match greet(alloc, security, nonces, unparsed, scanner)? {
         Greeting::Ended(heard) => Ok(heard),
         Greeting::Passed(pong, behind) => {

@@ -350,6 +350,7 @@ impl Source {
             ≤ length self.new.live.unsent + self.new.room }
     {
         let context = RequestContext {
+            alloc,
             security: &self.security,
             nonces: &self.nonces,
             awaits: self.awaits,
@@ -357,14 +358,7 @@ impl Source {
         };
         let unparsed = Unparsed { bytes, scanned: 0 };
         let (waiting, unsent) = (&mut self.waiting, &mut self.unsent);
-        match take_all(
-            alloc,
-            &context,
-            unparsed,
-            &mut self.scanner,
-            waiting,
-            unsent,
-        ) {
+        match take_all(&context, unparsed, &mut self.scanner, waiting, unsent) {
             Ok(taken) => {
                 self.rest = taken.rest.unwrap_or(Vec::new(alloc));
                 self.awaits = taken.awaits;
@@ -395,6 +389,7 @@ impl Source {
         let before = self.rest.len();
         self.rest.extend_from_slice(bytes)?;
         let context = RequestContext {
+            alloc,
             security: &self.security,
             nonces: &self.nonces,
             awaits: self.awaits,
@@ -405,14 +400,7 @@ impl Source {
             scanned: before,
         };
         let (waiting, unsent) = (&mut self.waiting, &mut self.unsent);
-        match take_all(
-            alloc,
-            &context,
-            unparsed,
-            &mut self.scanner,
-            waiting,
-            unsent,
-        ) {
+        match take_all(&context, unparsed, &mut self.scanner, waiting, unsent) {
             Ok(taken) => {
                 let Parsed {
                     rest,

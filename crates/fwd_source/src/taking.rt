@@ -43,9 +43,10 @@ use fwd_msgpack::Scanner;
 use std::alloc::{AllocError, Global};
 use std::collections::VecDeque;
 
-/// What of a connection decides what its bytes ask for.
+/// What of a connection decides what its bytes ask for, and where memory for that comes from.
 #[derive(Clone, Copy)]
 pub struct RequestContext<'a> {
+    pub alloc: Global,
     pub security: &'a Security,
     pub nonces: &'a Nonces,
     /// A PING is awaited.
@@ -67,7 +68,6 @@ pub struct Parsed {
 
 /// What the bytes say. Of the scanner, see `hear`.
 fn judge<'a>(
-    alloc: Global,
     context: &RequestContext<'_>,
     unparsed: Unparsed<'a>,
     scanner: &mut Scanner,
@@ -85,16 +85,10 @@ fn judge<'a>(
     ensures refused { context.now.awaits ≡ false
         → IsRefused scanner.old.limits unparsed.entry.bytes.now → IsOk result }
 {
-    let RequestContext {
-        security,
-        nonces,
-        awaits,
-        count,
-    } = *context;
-    if awaits {
-        hear_greeting(alloc, security, nonces, count, unparsed, scanner)
+    if context.awaits {
+        hear_greeting(context, unparsed, scanner)
     } else {
-        hear(alloc, count, unparsed, scanner)
+        hear(context.alloc, context.count, unparsed, scanner)
     }
 }
 
@@ -141,7 +135,6 @@ fn enter(
 /// Judges the bytes, and puts what they ask for where it waits. On an error nothing waits that did
 /// not before. Of the scanner, see `hear`.
 pub fn take_all(
-    alloc: Global,
     context: &RequestContext<'_>,
     unparsed: Unparsed<'_>,
     scanner: &mut Scanner,
@@ -176,8 +169,8 @@ pub fn take_all(
         pong: out,
         awaits,
         fault,
-    } = judge(alloc, context, unparsed, scanner)?;
-    let rest = apart(alloc, rest, unparsed)?;
+    } = judge(context, unparsed, scanner)?;
+    let rest = apart(context.alloc, rest, unparsed)?;
     enter(requests, &out, waiting, unsent)?;
     Ok(Parsed {
         rest,

@@ -2,7 +2,14 @@
 
 use crate::ending::EndReason;
 use crate::refused::{Refused, Suspect};
+use crate::tally::Tally;
+use crate::turn_context::TurnContext;
+use fwd_chunks::Carried;
 use std::mem;
+use std::sync::Wait;
+
+/// How often a chunk was lost before, where one loss more says that its server refuses it.
+const SUSPECT: u8 = 2;
 
 /// What a worker remembers of losses.
 #[derive(Clone, Copy)]
@@ -40,6 +47,20 @@ impl Doubts {
     pub(crate) fn begin(&mut self) {
         self.ask = None;
         self.is_asking = false;
+    }
+
+    /// What is told of a chunk if its session ends now: it was lost twice before, and its server is
+    /// known to work.
+    pub(crate) fn suspect<A: Tally, S: Tally, R: Wait>(
+        &self,
+        context: &TurnContext<'_, A, S, R>,
+        server: u16,
+        chunk: &Carried,
+    ) -> Option<Suspect> {
+        if self.losses < SUSPECT || context.out.is_doubted(context.rt, server) {
+            return None;
+        }
+        Some(Suspect::of(chunk, self.losses))
     }
 
     /// The first chunk of a session is loaded, which may be one that its server refuses.

@@ -33,7 +33,6 @@ use crate::leaving::{end_free, finish, give_back, give_back_now, lose_upstream, 
 use crate::link::{Clock, Gate, Hub, Link, LossReason, Pass, WorkerEvent};
 use crate::outlook::{Outlook, Picked};
 use crate::picking::{fresh, pick, unused};
-use crate::refused::Suspect;
 use crate::serve::ROOM;
 use crate::shared::SharedOutput;
 use crate::tally::Tally;
@@ -51,9 +50,6 @@ use std::sync::{Arc, Wait};
 
 /// How many chunks that were lost a worker passes by at the most, in search of one that was not.
 const AHEAD: u16 = 256;
-
-/// How often a chunk was lost before, where one loss more says that its server refuses it.
-const SUSPECT: u8 = 2;
 
 /// Why a worker's run ended.
 #[derive(Clone, Copy)]
@@ -593,7 +589,9 @@ impl Worker {
             return self.wait_for(context, seat, free, chunk);
         }
         let IdleUpstream { mut upstream } = free;
-        let suspect = self.suspect(context, upstream.session.server(), &chunk);
+        let suspect = self
+            .doubts
+            .suspect(context, upstream.session.server(), &chunk);
         match upstream.session.load(self.alloc, chunk, context.now) {
             Ok(()) => {
                 self.doubts.load(suspect);
@@ -608,21 +606,6 @@ impl Worker {
                 self.wait_for(context, seat, free, chunk)
             }
         }
-    }
-
-    /// What is told of a chunk if its session ends now: it was lost twice before, and its server is
-    /// known to work.
-    fn suspect<A: Tally, S: Tally, R: Wait>(
-        &self,
-        context: &TurnContext<'_, A, S, R>,
-        server: u16,
-        chunk: &Carried,
-    ) -> Option<Suspect> {
-        let losses = self.doubts.losses;
-        if losses < SUSPECT || context.out.is_doubted(context.rt, server) {
-            return None;
-        }
-        Some(Suspect::of(chunk, losses))
     }
 
     /// Loads the chunk that was taken, beside those that the session has.

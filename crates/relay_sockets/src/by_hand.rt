@@ -7,7 +7,7 @@ use crate::site::{PLAIN, SEED};
 use crate::stage::Stage;
 use crate::step::Step;
 use anyhow::{Result, anyhow};
-use fwd_loop::{Runtime, Turns};
+use fwd_loop::{Platform, Turns};
 use fwd_monitor::page;
 use std::net::{Net, TcpListener, TcpStream};
 use std::rt::Clock;
@@ -127,7 +127,7 @@ impl Turner for Stage {
 }
 
 /// Makes the turns of such a relay.
-fn make_turns<R: Runtime>(rt: &R, stage: &mut Stage) -> Result<()> {
+fn make_turns<R: Platform>(rt: &R, stage: &mut Stage) -> Result<()> {
     let relay = stage.site.relay(&Sealed::new(rt), 8, SEED, &[PLAIN])?;
     let ended = run(rt, relay, stage);
     stage.play(rt, Step::Within("soon", SOON))?;

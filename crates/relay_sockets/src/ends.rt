@@ -2,8 +2,8 @@
 
 use crate::server::Server;
 use anyhow::Result;
-use fwd_loop::Runtime;
-use fwd_program::{Log, run_all};
+use fwd_loop::Platform;
+use fwd_program::{Invocation, Log, run_all};
 use std::alloc::Global;
 use std::io::{ErrorKind, Write};
 use std::net::{Net, TcpListener, TcpStream};
@@ -126,13 +126,14 @@ impl Call {
     }
 
     /// Calls the whole program, and says its exit status, what it wrote, and what it told.
-    fn say<R: Runtime + Files + Print>(self, rt: &R) -> Result<()> {
+    fn say<R: Platform + Files + Print>(self, rt: &R) -> Result<()> {
         let alloc = rt.alloc();
         let mut output = Pipe::new(alloc, self.manner);
         let mut errors = Vec::new(alloc);
-        let words = self.words(alloc);
+        let log = Log::Off;
+        let call = self.words(alloc).map(|words| Invocation { words, log });
         let mut input = b"".as_slice();
-        let status = run_all(rt, words, Log::Off, &mut input, &mut output, &mut errors);
+        let status = run_all(rt, call, &mut input, &mut output, &mut errors);
         let written = String::from_utf8_lossy(alloc, &output.given)?;
         let told = String::from_utf8_lossy(alloc, &errors)?;
         let words = self.words;
@@ -155,7 +156,7 @@ fn write_good<R: Net<Listener = TcpListener, Stream = TcpStream> + Files + Alloc
 }
 
 /// Writes the good settings, and makes the calls.
-fn try_ends<R: Runtime + Files + Print>(rt: &R) -> Result<()> {
+fn try_ends<R: Platform + Files + Print>(rt: &R) -> Result<()> {
     write_good(rt)?;
     for call in &CALLS {
         call.say(rt)?;

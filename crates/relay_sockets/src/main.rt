@@ -7,8 +7,8 @@
 mod asking;
 mod by_hand;
 mod ends;
+mod events;
 mod extremes;
-mod facts;
 mod frame;
 mod hand;
 mod heard;
@@ -96,7 +96,7 @@ fn main(rt: HostRuntime) {
     say_next(&rt);
     say(&rt, starts::text_of_starts(&rt, 15));
     say_next(&rt);
-    facts::say_each(&rt);
+    events::say_each(&rt);
     say_next(&rt);
     pacing::say_many(&rt);
     say_next(&rt);

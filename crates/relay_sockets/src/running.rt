@@ -2,7 +2,7 @@
 
 use crate::heard::Heard;
 use fwd_chunks::Report;
-use fwd_loop::{Beside, Loop, Opened, Runtime, StartFault, Started, Turns, close_all};
+use fwd_loop::{Beside, Loop, Opened, Platform, StartFault, Started, Turns, close_all};
 use std::net::{Net, TcpListener, TcpStream};
 use std::rt::Clock;
 use std::sync::Wait;
@@ -57,7 +57,7 @@ impl Turner for Until<'_> {
 }
 
 /// Makes turns with the other readers and the workers at work meanwhile, which end then, too.
-fn serve<R: Runtime, T: Turner>(
+fn serve<R: Platform, T: Turner>(
     rt: &R,
     turns: &mut Turns<'_, R>,
     beside: Beside<'_, '_, R>,
@@ -75,7 +75,7 @@ fn serve<R: Runtime, T: Turner>(
 
 /// Opens a relay, makes its turns, and answers what its outputs have to do with then. All its
 /// threads have ended by that.
-pub fn run<R: Runtime, T: Turner>(
+pub fn run<R: Platform, T: Turner>(
     rt: &R,
     relay: Loop,
     turner: &mut T,

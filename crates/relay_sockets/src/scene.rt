@@ -10,7 +10,7 @@ use crate::step::Step;
 use crate::traffic::{play_alone, play_deaths};
 use anyhow::{Result, anyhow, bail};
 use fwd_chunks::Report;
-use fwd_loop::{Loop, Runtime, StartFault};
+use fwd_loop::{Loop, Platform, StartFault};
 use std::net::{Net, TcpListener, TcpStream};
 use std::rt::Clock;
 use std::sync::Wait;
@@ -102,7 +102,7 @@ impl Scene {
     }
 
     /// Runs its relay: what its outputs have to do with then.
-    fn turn<R: Runtime>(
+    fn turn<R: Platform>(
         self,
         rt: &R,
         relay: Loop,
@@ -128,7 +128,7 @@ impl Scene {
 
     /// Runs its relay, and plays what happens around it meanwhile. The relay ends with the play,
     /// whatever that came to.
-    fn run<R: Runtime>(
+    fn run<R: Platform>(
         self,
         rt: &R,
         stage: &mut Stage,
@@ -155,7 +155,7 @@ impl Scene {
     }
 
     /// The same, and appends what it came to.
-    fn put_run<R: Runtime>(self, rt: &R, stage: &mut Stage) -> Result<()> {
+    fn put_run<R: Platform>(self, rt: &R, stage: &mut Stage) -> Result<()> {
         let is_over = AtomicBool::new(false);
         let mut until = Until {
             heard: Heard::new(rt.alloc()),
@@ -171,7 +171,7 @@ impl Scene {
 
     /// What is printed of it, with so many readers. What failed is printed too, so that one scene
     /// does not hide another.
-    fn text<R: Runtime>(self, rt: &R, readers: u16) -> Result<String> {
+    fn text<R: Platform>(self, rt: &R, readers: u16) -> Result<String> {
         let mut stage = Stage::new(rt, rt.alloc(), self.host)?;
         stage.site.readers = if self.is_of_one { 1 } else { readers };
         stage.told.begin(self.title);
@@ -182,7 +182,7 @@ impl Scene {
 }
 
 /// What is printed of the scene at a place among these, with so many readers.
-fn text_at<R: Runtime>(rt: &R, scenes: &[Scene], place: usize, readers: u16) -> Result<String> {
+fn text_at<R: Platform>(rt: &R, scenes: &[Scene], place: usize, readers: u16) -> Result<String> {
     match scenes.get(place) {
         Some(scene) => scene.text(rt, readers),
         None => Err(anyhow!("no such scene")),

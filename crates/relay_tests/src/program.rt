@@ -125,7 +125,7 @@ fn ran(rt: &HostRuntime, list: io::Result<Vec<String>>, input: &str, fails: Fail
     let mut reader = Stream::new(alloc, input.as_bytes(), fails.reads, false);
     let mut writer = Stream::new(alloc, b"", fails.writes, fails.flush);
     let mut errors = Vec::new(alloc);
-    let code = run_program(alloc, rt, list, &mut reader, &mut writer, &mut errors);
+    let code = run_program(rt, list, &mut reader, &mut writer, &mut errors);
     let Stream { given: out, .. } = writer;
     Outcome { code, out, errors }
 }

@@ -6,8 +6,8 @@ use Rattle.fwd_chunks.proofs.entering.fresh_chunks.Given as goal
 
 abbrev pub invariant-loop-rest : goal.invariant-loop-rest
 invariant-loop-rest l = record {
-  made : l.chunks.items ++ fresh_of l.limit l.tag l.since (l.first + length l.chunks.items) (entries_in l.rest) ≡ fresh_of l.limit l.tag l.since l.first (entries_in l.part);
-  numbers : l.first + length l.chunks.items + needed l.limit (entries_in l.rest) ≤ 2 ^ 64;
+  made : l.chunks.items ++ fresh_of l.fresh.limit l.fresh.tag.now l.fresh.since (l.fresh.first + length l.chunks.items) (entries_in l.rest) ≡ fresh_of l.fresh.limit l.fresh.tag.now l.fresh.since l.fresh.first (entries_in l.part);
+  numbers : l.fresh.first + length l.chunks.items + needed l.fresh.limit (entries_in l.rest) ≤ 2 ^ 64;
   size : size_of (entries_in l.rest) < 2 ^ 32;
 }
 

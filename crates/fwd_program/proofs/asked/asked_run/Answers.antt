@@ -5,8 +5,8 @@ use Rattle.fwd_script.proofs.WordLemmas.{bytes_eq-true}
 use Rattle.fwd_program.proofs.Words.{front}
 use Rattle.fwd_program.proofs.asked.asked_run.Goals as goal
 
-pub returns-in_ok-turns : goal.returns-in_ok-turns
-returns-in_ok-turns c =
+pub returns-in_ok-turns-clause-asked : goal.returns-in_ok-turns-clause-asked
+returns-in_ok-turns-clause-asked c =
     let word : string_bytes c.index-words-1.result ≡ codes "run" =
     sym c.as_str.ensures.value ∙ bytes_eq-true c.as_str.result.now (codes "run") (sym c.eq.ensures ∙ c.if-eq.true) in
     let behind = map string_bytes (take (length c.args.words.now - 3) (drop 3 c.args.words.now)) in (

@@ -7,8 +7,8 @@ use Rattle.fwd_program.proofs.program.run_words.Goals as goal
 pub returns-in-Some-clause-other : goal.returns-in-Some-clause-other
 returns-in-Some-clause-other g c none =
     let run = c.in-Some.run' in
-    absurd (none run.path.now run.turns (subst (λ ws. AsksRun (words_behind (map string_bytes ws)) run.path.now run.turns) c.as_slice.ensures.value c.in-Some.ensures))
+    absurd (none run.path.now run.turns (subst (λ ws. AsksRun (words_behind (map string_bytes ws)) run.path.now run.turns) c.as_slice.ensures.value c.in-Some.ensures.asked))
 
 pub returns-in-None-clause-run : goal.returns-in-None-clause-run
 returns-in-None-clause-run g c path turns asks =
-    absurd (c.in-None.ensures path turns (subst (λ ws. AsksRun (words_behind (map string_bytes ws)) path turns) (sym c.as_slice.ensures.value) asks))
+    absurd (c.in-None.ensures.asked path turns (subst (λ ws. AsksRun (words_behind (map string_bytes ws)) path turns) (sym c.as_slice.ensures.value) asks))

@@ -7,5 +7,5 @@ use Rattle.fwd_settings.proofs.unknown.least_under.Given as goal
 
 abbrev pub invariant-loop-name : goal.invariant-loop-name
 invariant-loop-name l =
-    least (cons_option l.fn.least (unknown_under l.place (map (λ known. known.now) l.names) (table_view l.table)))
-    ≡ least (cons_option l.least (map (key_under l.place) (filter (is_unknown (map (λ known. known.now) l.names)) (map string_bytes l.name-iterator))))
+    least (cons_option l.fn.least (unknown_under l.place (map (λ rule. rule.name.now) l.rules) (table_view l.table)))
+    ≡ least (cons_option l.least (map (key_under l.place) (filter (is_unknown (map (λ rule. rule.name.now) l.rules)) (map string_bytes l.name-iterator))))

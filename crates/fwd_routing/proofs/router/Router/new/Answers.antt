@@ -7,7 +7,7 @@ use Rattle.fwd_routing.proofs.router.Router.new.Goals as goal
 
 pub loop-output-2-preserved : goal.loop-output-2-preserved
 loop-output-2-preserved g c =
-    subst (λ xs. All (HoldsRouted c.args.routes.now) (stores_of xs))
+    subst (λ xs. All (HoldsRouted c.args.parts.routes.now) (stores_of xs))
     (sym c.in_default.ensures.items)
-    (push_place c.args.routes.now c.loop-output-2.all.items c.new-output_route.result
-    (c.new-output_route.ensures c.args.routes.now) c.loop-output-2.invariant)
+    (push_place c.args.parts.routes.now c.loop-output-2.all.items c.new-output_route.result
+    (c.new-output_route.ensures c.args.parts.routes.now) c.loop-output-2.invariant)

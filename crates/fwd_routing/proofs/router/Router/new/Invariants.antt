@@ -5,4 +5,4 @@ use Rattle.fwd_routing.proofs.router.Router.new.Given as goal
 
 -- no route gave a ticket yet
 abbrev pub invariant-loop-output-2 : goal.invariant-loop-output-2
-invariant-loop-output-2 g l = All (HoldsRouted l.fn.routes) (stores_of l.all.items)
+invariant-loop-output-2 g l = All (HoldsRouted l.fn.parts.routes.now) (stores_of l.all.items)

@@ -7,7 +7,7 @@ use std::thread::Threads;
 
 /// What a run asks of its runtime: TCP sockets, threads, waits, the clock and memory, shared by all
 /// of its threads.
-pub trait Runtime: Net<Listener = TcpListener, Stream = TcpStream>
+pub trait Platform: Net<Listener = TcpListener, Stream = TcpStream>
     + Threads
     + Wait
     + Clock
@@ -21,4 +21,4 @@ impl<
         + Clock
         + AllocGlobal
         + Sync,
-> Runtime for R {}
+> Platform for R {}

@@ -1,9 +1,9 @@
 //! The tables of the settings, their keys, and what may stand under each key.
 
 ghost use Rattle.std.specs.Prelude.{◌≡◌, map};
-ghost use Rattle.fwd_program.specs.Sections.{names_in};
+ghost use Rattle.fwd_settings.specs.Keys.{names_of};
 
-use fwd_settings::ranges::{
+use crate::ranges::{
     CHUNK_LIMIT_MAX, CONNECTIONS_MAX, DEPTH_MAX, DEPTH_MIN, MESSAGE_LIMIT_MAX, MESSAGE_LIMIT_MIN,
     NAME_MAX, OUTPUTS_MAX, READERS_MAX, RETRY_WAIT_DEFAULT, SERVERS_MAX, SHARED_KEY_MAX,
     TOTAL_LIMIT_MAX, WAIT_MAX, WINDOW_MAX, WORKERS_MAX,
@@ -12,7 +12,7 @@ use std::fmt;
 
 /// What may stand under a key.
 #[derive(Clone, Copy)]
-pub(crate) enum Allowed {
+pub enum Allowed {
     /// A number from a least to a greatest.
     Count(u64, u64),
     /// A number of bytes from 1 to a greatest.
@@ -77,14 +77,14 @@ impl fmt::Display for Allowed {
 
 /// A key of a table.
 #[derive(Clone, Copy)]
-pub(crate) struct KeyRule {
+pub struct KeyRule {
     pub name: &'static str,
     pub allowed: Allowed,
 }
 
 /// A kind of table of the settings.
-#[derive(Clone, Copy, PartialEq, Eq)]
-pub(crate) enum Section {
+#[derive(Clone, Copy)]
+pub enum TableKind {
     Root,
     Relay,
     User,
@@ -243,86 +243,30 @@ static SERVER: [KeyRule; 2] = [
     },
 ];
 
-/// The tables that have keys which may be misplaced.
-static SECTIONS: [Section; 4] = [
-    Section::Relay,
-    Section::User,
-    Section::Output,
-    Section::Server,
-];
-
-impl Section {
+impl TableKind {
     /// Its keys.
     pub fn rules(self) -> &'static [KeyRule]
-        ensures { map (λ rule. rule.name.now) result.now ≡ names_in self }
+        ensures { map (λ rule. rule.name.now) result.now ≡ names_of self }
     {
         match self {
-            Section::Root => &ROOT,
-            Section::Relay => &RELAY,
-            Section::User => &USER,
-            Section::Output => &OUTPUT,
-            Section::Server => &SERVER,
+            TableKind::Root => &ROOT,
+            TableKind::Relay => &RELAY,
+            TableKind::User => &USER,
+            TableKind::Output => &OUTPUT,
+            TableKind::Server => &SERVER,
         }
-    }
-
-    /// What may stand under a name in it, if it has that key.
-    pub fn allowed(self, name: &str) -> Option<Allowed> {
-        let rule = self.rules().iter().find(|rule| rule.name == name)?;
-        Some(rule.allowed)
-    }
-
-    /// The table that it stands in, which may have keys that are misplaced in it.
-    pub fn parent(self) -> Option<Section> {
-        match self {
-            Section::User => Some(Section::Relay),
-            Section::Server => Some(Section::Output),
-            _ => None,
-        }
-    }
-
-    /// The first table that has a key of this name.
-    pub fn having(name: &str) -> Option<Section> {
-        let section = SECTIONS
-            .iter()
-            .find(|section| section.allowed(name).is_some())?;
-        Some(*section)
-    }
-
-    /// The table that a key is in, and the key's name there, without its place in a list.
-    pub fn of_key(key: &str) -> (Section, &str) {
-        let Some((table, name)) = key.rsplit_once('.') else {
-            return (Section::Root, unplaced(key));
-        };
-        let section = if table.starts_with("relay.user[") {
-            Section::User
-        } else if table.starts_with("relay") {
-            Section::Relay
-        } else if table.contains(".server[") {
-            Section::Server
-        } else {
-            Section::Output
-        };
-        (section, unplaced(name))
-    }
-}
-
-/// A name without the place in a list behind it.
-fn unplaced(name: &str) -> &str {
-    match name.split_once('[') {
-        Some((list, _)) => list,
-        None => name,
     }
 }
 
 /// How the table is written.
-impl fmt::Display for Section {
+impl fmt::Display for TableKind {
     fn fmt<W: fmt::Write>(&self, f: &mut fmt::Formatter<W>) -> fmt::Result {
         f.write_str(match self {
-            Section::Root => "the top",
-            Section::Relay => "[relay]",
-            Section::User => "[[relay.user]]",
-            Section::Output => "[[output]]",
-            Section::Server => "[[output.server]]",
+            TableKind::Root => "the top",
+            TableKind::Relay => "[relay]",
+            TableKind::User => "[[relay.user]]",
+            TableKind::Output => "[[output]]",
+            TableKind::Server => "[[output.server]]",
         })
     }
 }
