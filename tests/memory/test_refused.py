@@ -5,6 +5,7 @@ crates/relay_scripts, which a gate leaves beside the first; RELAY_SCRIPTS may na
 """
 
 import os
+import re
 import resource
 import subprocess
 
@@ -93,10 +94,11 @@ def is_ended(run):
 
 
 def is_as(run, ample):
-    """Whether a check ended as with ample memory, and said no more: a caution or a cause may be left out."""
+    """Whether a check ended as with ample memory, and said no more: a caution, a cause or its line may be left out."""
     said, whole = run.errors.splitlines(), ample.errors.splitlines()
     is_status = run[1:3] == ample[1:3] and (run.status == 0 or said[-1:] == whole[-1:])
-    return is_status and set(said) <= set(whole)
+    unlined = [re.sub(rb" line \d+: ", b": ", line, count=1) for line in whole]
+    return is_status and set(said) <= {*whole, *unlined}
 
 
 @pytest.mark.parametrize("path", each(SETTINGS))
