@@ -427,7 +427,7 @@ impl Source {
     /// may become its request's own, and what is behind it is judged where it is. On an error
     /// nothing has changed.
     #[tactic(auto, unfolding(crate::specs::Live::source_hears))]
-    fn hears_packed(&mut self, alloc: Global, bytes: &[u8]) -> Result<SourceTold, AllocError>
+    fn hears_packed(&mut self, bytes: &[u8]) -> Result<SourceTold, AllocError>
         requires open { self.old.live.closed ≡ false }
         requires passed { self.old.live.awaits ≡ false }
         requires counted { self.old.live.admitted + length self.old.live.waiting + 1 < 2 ^ 64 }
@@ -443,7 +443,7 @@ impl Source {
         let known = self.rest.len();
         let count = self.admitted + self.waiting.len() as u64;
         let (rest, waiting) = (&mut self.rest, &mut self.waiting);
-        match take_on(alloc, count, rest, bytes, &mut self.scanner, waiting) {
+        match take_on(count, rest, bytes, &mut self.scanner, waiting) {
             Ok(taken) => {
                 let Parsed {
                     rest,
@@ -481,7 +481,7 @@ impl Source {
     {
         let count = self.admitted + self.waiting.len() as u64;
         if !self.awaits && count < u64::MAX && is_packed(&self.rest) {
-            self.hears_packed(alloc, bytes)
+            self.hears_packed(bytes)
         } else {
             self.hears_joined(alloc, bytes)
         }

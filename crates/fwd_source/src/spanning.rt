@@ -112,7 +112,6 @@ fn refused(alloc: Global, fault: SourceFault) -> Parsed
 /// value's bytes are as they were, and nothing waits that did not before. Of the scanner, see
 /// `hear`.
 fn take_value(
-    alloc: Global,
     count: u64,
     value: &mut Vec<u8>,
     behind: &[u8],
@@ -138,6 +137,7 @@ fn take_value(
     ensures err { OnErr result ((value.new.items ≡ value.old.items)
         × (waiting.new.items ≡ waiting.old.items)) }
 {
+    let alloc = *value.allocator();
     let number = count_behind(value, count);
     let unparsed = Unparsed {
         bytes: behind,
@@ -181,7 +181,6 @@ fn take_value(
 /// are there, and maybe others behind them, nothing waits that did not before, and the scanner
 /// stands anywhere.
 pub fn take_on(
-    alloc: Global,
     count: u64,
     rest: &mut Vec<u8>,
     bytes: &[u8],
@@ -206,11 +205,11 @@ pub fn take_on(
     match go_on(scanner, rest, bytes)? {
         Fed::More => Ok(Parsed {
             rest: None,
-            out: Bytes::new(alloc),
+            out: Bytes::new(*rest.allocator()),
             awaits: false,
             fault: None,
         }),
-        Fed::End(used) => take_value(alloc, count, rest, &bytes[used..], scanner, waiting),
-        Fed::Bad(fault) => Ok(refused(alloc, SourceFault::Scan(fault))),
+        Fed::End(used) => take_value(count, rest, &bytes[used..], scanner, waiting),
+        Fed::Bad(fault) => Ok(refused(*rest.allocator(), SourceFault::Scan(fault))),
     }
 }
