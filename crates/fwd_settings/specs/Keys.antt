@@ -14,6 +14,8 @@ use Rattle.fwd_settings.specs.declared.settings.UserSettings.{UserSettings}
 use Rattle.fwd_settings.specs.declared.settings.OutputSettings.{OutputSettings}
 use Rattle.fwd_settings.specs.declared.settings.ServerSettings.{ServerSettings}
 use Rattle.fwd_settings.specs.declared.settings.WhenFull.{WhenFull}
+use Rattle.fwd_settings.specs.declared.relay.Identity.{Identity}
+use Rattle.fwd_settings.specs.declared.relay.Intake.{Intake}
 use Rattle.fwd_settings.specs.declared.output.Sizes.{Sizes}
 use Rattle.fwd_settings.specs.declared.output.Waits.{Waits}
 use Rattle.fwd_settings.specs.declared.output.Login.{Login}
@@ -146,23 +148,57 @@ user_settings value =
 
 -- ---- the table `relay`
 
+-- who the relay is, and what of it is secret
+abbrev pub identity_table : Members → List (Option SettingsFault)
+identity_table relay =
+    fault_at Relay relay relay_hostname ∷
+    fault_at Relay relay shared_key ∷
+    fault_at Relay relay run_id ∷
+    fault_at Relay relay seed ∷ []
+
+-- how much the relay takes of sources
+abbrev pub intake_table : Members → List (Option SettingsFault)
+intake_table relay =
+    fault_at Relay relay connections ∷
+    fault_at Relay relay message_limit ∷
+    fault_at Relay relay depth ∷
+    fault_at Relay relay readers ∷ []
+
+-- its users: first the list's own range
+abbrev pub users_table : Members → List (Option SettingsFault)
+users_table relay =
+    fault_at Relay relay (users relay) ∷
+    first (each user_fault 0 (setting_at relay (users relay))) ∷ []
+
 -- the faults of the keys under `relay`, in the order in which they are judged
 abbrev pub relay_table : Members → List (Option SettingsFault)
 relay_table relay =
     fault_at Relay relay listen ∷
     fault_at Relay relay monitor ∷
-    fault_at Relay relay relay_hostname ∷
-    fault_at Relay relay shared_key ∷
-    fault_at Relay relay run_id ∷
-    fault_at Relay relay seed ∷
-    fault_at Relay relay connections ∷
-    fault_at Relay relay message_limit ∷
-    fault_at Relay relay depth ∷
-    fault_at Relay relay readers ∷
-    fault_at Relay relay (users relay) ∷
-    first (each user_fault 0 (setting_at relay (users relay))) ∷
-    fault_at Relay relay metrics ∷
-    fault_at Relay relay idle_limit ∷ []
+    (identity_table relay ++ (intake_table relay ++ (users_table relay
+    ++ fault_at Relay relay metrics ∷ fault_at Relay relay idle_limit ∷ [])))
+
+-- who the relay is, by its keys
+abbrev pub relay_identity : Members → Identity
+relay_identity relay = record {
+  hostname = setting_at relay relay_hostname;
+  shared_key = setting_at relay shared_key;
+  run_id = setting_at relay run_id;
+  seed = setting_at relay seed;
+}
+
+-- how much the relay takes of sources, by its keys
+abbrev pub relay_intake : Members → Intake
+relay_intake relay = record {
+  connections = setting_at relay connections;
+  message_limit = setting_at relay message_limit;
+  depth = setting_at relay depth;
+  readers = setting_at relay readers;
+}
+
+-- the users, by their keys
+abbrev pub users_in : Members → List UserSettings
+users_in relay = map user_settings (setting_at relay (users relay))
 
 -- the settings under `relay`, by their keys
 abbrev pub relay_settings : Members → RelaySettings
@@ -177,7 +213,7 @@ relay_settings relay = record {
   message_limit = setting_at relay message_limit;
   depth = setting_at relay depth;
   readers = setting_at relay readers;
-  users = map user_settings (setting_at relay (users relay));
+  users = users_in relay;
   metrics = setting_at relay metrics;
   idle_limit = setting_at relay idle_limit;
 }
