@@ -4,7 +4,7 @@ ghost use Rattle.std.specs.Prelude.{◌≡◌, ◌+◌, IfOk};
 
 use crate::batches::output;
 use crate::memory::Open;
-use crate::turns::{Post, admits, collected, works};
+use crate::turns::{Load, Post, admits, collected, works};
 use anyhow::Result;
 use fwd_workers::{Closing, Ledgered, Locked, Seat, SharedOutput, Tally, Ticket, open};
 use std::alloc::Global;
@@ -36,8 +36,8 @@ pub fn admit_both<L: Ledger + Send + Sync, M: Ledger + Send + Sync, R: Threads +
 {
     thread::join(
         rt,
-        move || admits(rt, alloc, out, one, 1, 100),
-        move || admits(rt, alloc, out, other, 2, 100),
+        move || admits(rt, alloc, out, one, Load::new(1, 100)),
+        move || admits(rt, alloc, out, other, Load::new(2, 100)),
     )
 }
 
@@ -52,11 +52,20 @@ fn work_both<L: Ledger + Send + Sync, M: Ledger + Send + Sync, R: Threads + Wait
     ensures { (result.0.0.parts ≡ seats.0.parts) × (result.1.0.parts ≡ seats.1.parts) }
 {
     let (one, other) = seats;
-    let (first, second) = (Post { number: 0, window }, Post { number: 1, window });
+    let first = Post {
+        alloc,
+        number: 0,
+        window,
+    };
+    let second = Post {
+        alloc,
+        number: 1,
+        window,
+    };
     thread::join(
         rt,
-        move || works(rt, alloc, out, one, first, &mut Open),
-        move || works(rt, alloc, out, other, second, &mut Open),
+        move || works(rt, out, one, first, &mut Open),
+        move || works(rt, out, other, second, &mut Open),
     )
 }
 

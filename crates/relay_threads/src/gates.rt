@@ -86,14 +86,14 @@ pub fn both_work<R: Threads + Wait + Clock + Sync>(
                 clock: rt,
                 sight: seen,
             };
-            works(rt, alloc, out, (), Post::narrow(0), &mut gate)
+            works(rt, out, (), Post::narrow(alloc, 0), &mut gate)
         },
         move || {
             let mut gate = Both {
                 clock: rt,
                 sight: seen,
             };
-            works(rt, alloc, out, (), Post::narrow(1), &mut gate)
+            works(rt, out, (), Post::narrow(alloc, 1), &mut gate)
         },
     );
     (first, second)

@@ -5,7 +5,7 @@ use crate::acts::KEY;
 use crate::batches::{login_with, output_at, output_of_one, output_of_three, terms_of};
 use crate::played::{Meetings, PlayedHub};
 use crate::record::Record;
-use crate::turns::{abandon_all, admits};
+use crate::turns::{Load, abandon_all, admits};
 use crate::watched::{Interrupt, Ticking, Watched};
 use anyhow::Result;
 use fwd_core::FlushKind;
@@ -88,7 +88,8 @@ fn locked(alloc: Global, life: Life) -> Result<Locked<Plain, Plain>> {
 /// The output of a life before its first turn.
 fn output_of<R: Wait>(rt: &R, alloc: Global, life: Life) -> Result<Out> {
     let out = SharedOutput::new(locked(alloc, life)?);
-    let ((), tickets) = admits(rt, alloc, &out, (), 1, life.requests);
+    let load = Load::new(1, life.requests);
+    let ((), tickets) = admits(rt, alloc, &out, (), load);
     abandon_all(rt, &out, tickets);
     if life.is_closed {
         out.flush(rt, 0, FlushKind::All);

@@ -26,6 +26,7 @@ mod watched;
 
 use crate::batches::output;
 use crate::mirror::{Story, are_alike, played_bare, played_behind};
+use crate::turns::Load;
 use anyhow::Result;
 use fwd_core::FlushKind;
 use fwd_workers::{Closing, Locked, Plain, SharedOutput};
@@ -100,7 +101,7 @@ fn tell_readers<R: Threads + Wait + Sync + Print>(rt: &R, alloc: Global) -> Resu
 /// Two workers that settle only together.
 fn tell_gates<R: Threads + Wait + Clock + Sync + Print>(rt: &R, alloc: Global) -> Result<()> {
     let out = shared(alloc, 2)?;
-    let ((), tickets) = turns::admits(rt, alloc, &out, (), 1, 2);
+    let ((), tickets) = turns::admits(rt, alloc, &out, (), Load::new(1, 2));
     out.flush(rt, 0, FlushKind::All);
     let stopped = gates::both_work(rt, alloc, &out);
     let (receipts, left) = turns::collected(rt, alloc, &out, tickets);

@@ -195,7 +195,7 @@ fn work_off<L: Ledger, M: Ledger, R: Wait>(
     ensures { result.parts ≡ seat.parts }
 {
     out.flush(rt, 0, FlushKind::All);
-    let (seat, _) = works(rt, alloc, out, seat, Post::narrow(0), &mut Open);
+    let (seat, _) = works(rt, out, seat, Post::narrow(alloc, 0), &mut Open);
     seat
 }
 

@@ -6,7 +6,7 @@ ghost use Rattle.std.specs.Prelude.{◌≡◌, ◌+◌, ◌<◌, ◌≤◌, IfOk
 use crate::batches::{login, output, terms};
 use crate::hand::Hand;
 use crate::memory::{Open, Still, Wires};
-use crate::turns::{Post, abandon_all, admits, works};
+use crate::turns::{Load, Post, abandon_all, admits, works};
 use anyhow::Result;
 use fwd_core::FlushKind;
 use fwd_workers::{
@@ -64,7 +64,8 @@ fn admit_hand<L: Ledger, M: Ledger, R: Wait>(
     hand: Hand<L>,
 ) -> Hand<L> {
     let Hand { number, seat } = hand;
-    let (seat, tickets) = admits(rt, alloc, out, seat, u64::from(number), 25);
+    let load = Load::new(u64::from(number), 25);
+    let (seat, tickets) = admits(rt, alloc, out, seat, load);
     abandon_all(rt, out, tickets);
     Hand { number, seat }
 }
@@ -164,7 +165,7 @@ fn admit_more<L: Ledger, M: Ledger, R: Wait>(
 ) -> Seat<L>
     ensures { result.parts ≡ seat.parts }
 {
-    let (seat, tickets) = admits(rt, alloc, out, seat, 100, 3);
+    let (seat, tickets) = admits(rt, alloc, out, seat, Load::new(100, 3));
     abandon_all(rt, out, tickets);
     seat
 }
@@ -179,7 +180,7 @@ fn work_off<L: Ledger, M: Ledger, R: Wait>(
     ensures { result.parts ≡ seat.parts }
 {
     out.flush(rt, 0, FlushKind::All);
-    let (seat, _) = works(rt, alloc, out, seat, Post::narrow(0), &mut Open);
+    let (seat, _) = works(rt, out, seat, Post::narrow(alloc, 0), &mut Open);
     seat
 }
 

@@ -6,7 +6,7 @@ use crate::batches::{login, output, terms};
 use crate::faulty::{FaultyHub, Got, Wrong};
 use crate::print_closing;
 use crate::record::Record;
-use crate::turns::{abandon_all, admits};
+use crate::turns::{Load, abandon_all, admits};
 use crate::watched::{Ticking, news_text, place_name};
 use anyhow::Result;
 use fwd_core::FlushKind;
@@ -185,7 +185,8 @@ fn tried_by<L: Ledger, M: Ledger, R: Wait>(
     let witness = Witness::new(alloc)?;
     let state = output(alloc, 3, 100_000)?;
     let out = SharedOutput::new(Locked::new(alloc, state, accepted, settled));
-    let (admit_seat, tickets) = admits(rt, alloc, &out, admit_seat, 1, trial.chunks);
+    let load = Load::new(1, trial.chunks);
+    let (admit_seat, tickets) = admits(rt, alloc, &out, admit_seat, load);
     abandon_all(rt, &out, tickets);
     out.flush(rt, 0, FlushKind::All);
     let work_seat = trial.work(rt, alloc, &out, work_seat, &witness);

@@ -27,20 +27,34 @@ pub fn abandon_all<A: Tally, S: Tally, R: Wait>(
     count
 }
 
-/// Admits so many requests of one entry for a connection.
+/// How many requests of one entry a connection asks for.
+#[derive(Clone, Copy)]
+pub struct Load {
+    pub conn: u64,
+    pub requests: u64,
+}
+
+impl Load {
+    /// So many requests of a connection.
+    pub fn new(conn: u64, requests: u64) -> Load {
+        Load { conn, requests }
+    }
+}
+
+/// Admits the requests of a connection.
 pub fn admits<A: Tally, S: Tally, R: Wait>(
     rt: &R,
     alloc: Global,
     out: &SharedOutput<A, S>,
     seat: A::Seat,
-    conn: u64,
-    times: u64,
+    load: Load,
 ) -> (A::Seat, Vec<Ticket>)
     ensures { A.parts result.0 ≡ A.parts seat }
 {
     let mut seat = seat;
     let mut tickets = Vec::new(alloc);
-    for request in 0..times {
+    let Load { conn, requests } = load;
+    for request in 0..requests {
         if tickets.reserve(1).is_err() {
             return (seat, tickets);
         }
@@ -55,24 +69,28 @@ pub fn admits<A: Tally, S: Tally, R: Wait>(
     (seat, tickets)
 }
 
-/// A worker's number, and how many chunks it may have that are not acknowledged.
+/// A worker's memory, its number, and how many chunks it may have that are not acknowledged.
 #[derive(Clone, Copy)]
 pub struct Post {
+    pub alloc: Global,
     pub number: u16,
     pub window: u8,
 }
 
 impl Post {
     /// A worker with one chunk at a time.
-    pub fn narrow(number: u16) -> Post {
-        Post { number, window: 1 }
+    pub fn narrow(alloc: Global, number: u16) -> Post {
+        Post {
+            alloc,
+            number,
+            window: 1,
+        }
     }
 }
 
 /// A worker's run, and whether the gate stopped it.
 pub fn works<A: Tally, S: Tally, G: Gate, R: Wait>(
     rt: &R,
-    alloc: Global,
     out: &SharedOutput<A, S>,
     seat: S::Seat,
     post: Post,
@@ -81,11 +99,15 @@ pub fn works<A: Tally, S: Tally, G: Gate, R: Wait>(
     ensures parts { S.parts result.0 ≡ S.parts seat }
     ensures count { S.count seat ≤ S.count result.0 }
 {
+    let Post {
+        alloc,
+        number,
+        window,
+    } = post;
     let Ok(login) = login(alloc) else {
         return (seat, false);
     };
     let rng = ChaCha20Rng::from_seed([0; 32]);
-    let Post { number, window } = post;
     let mut worker = Worker::new(alloc, number, login, terms(window), rng);
     let mut hub = Wires(alloc);
     let (seat, ended) = worker.run(rt, out, seat, &mut hub, gate, &mut Still, 10_000);

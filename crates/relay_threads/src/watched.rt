@@ -108,7 +108,8 @@ fn refused_text(alloc: Global, worker: u16, refused: Refused) -> Result<String, 
     let tag = str::from_utf8(tag.as_slice()).unwrap_or("no text");
     let why = loss_text(alloc, why)?;
     format!(in alloc;
-        ", worker {worker} tells a chunk of {tag} refused by server {server}: {size} bytes, {losses} losses: {why}"
+        ", worker {worker} tells a chunk of {tag} refused by server {server}: {size} bytes, \
+        {losses} losses: {why}"
     )
 }
 
