@@ -22,6 +22,7 @@ use fwd_chunks::Report;
 use fwd_config::config_of;
 use fwd_core::{Config, OutputConfig};
 use fwd_links::{Mailbox, Signs};
+use fwd_match::Routes;
 use fwd_routing::{Connections, Observer, PageDesk, SharedTally, reports_of};
 use fwd_settings::{OutputSettings, ServerSettings, Settings, WhenFull};
 use mio::{Events, Poll, Waker};
@@ -165,6 +166,12 @@ fn pools_of<R: Net>(
     Ok(pools)
 }
 
+/// What tells a reader that waits for this poll.
+fn mailbox_of(alloc: Global, poll: &Poll, signs: &Signs) -> Result<Mailbox, StartFault> {
+    let waker = Waker::new(poll.registry(), WAKER).map_err(|_| StartFault::Poll)?;
+    Ok(Mailbox::new(alloc, waker, signs.share()?))
+}
+
 /// A reader's loop before its first turn, without listeners, and what it is told by.
 fn event_loop_of<R: Net>(
     rt: &R,
@@ -172,19 +179,21 @@ fn event_loop_of<R: Net>(
     signs: &Signs,
     idle_limit: Option<u64>,
 ) -> Result<(EventLoop, Mailbox), StartFault> {
+    let events = Events::with_capacity(alloc, EVENTS)?;
+    let room = vec![in alloc; 0; PIECE]?;
+    let memory = LoopMemory::new(signs.share()?);
     let poll = Poll::new(rt).map_err(|_| StartFault::Poll)?;
-    let waker = Waker::new(poll.registry(), WAKER).map_err(|_| StartFault::Poll)?;
-    let mailbox = Mailbox::new(alloc, waker, signs.share()?);
+    let mailbox = mailbox_of(alloc, &poll, signs)?;
     let event_loop = EventLoop {
         alloc,
         poll,
-        events: Events::with_capacity(alloc, EVENTS)?,
-        room: vec![in alloc; 0; PIECE]?,
+        events,
+        room,
         acceptor: None,
         connections: Connections::new(alloc),
         idle_limit,
         was_at_work: false,
-        memory: LoopMemory::new(signs.share()?),
+        memory,
     };
     Ok((event_loop, mailbox))
 }
@@ -215,6 +224,31 @@ fn acceptor_of<R: Net>(
     })
 }
 
+/// The first reader's loop, with the listeners, what it is told by, and the signs of its relay.
+#[derive(Drop)]
+struct FirstReader {
+    signs: Signs,
+    event_loop: EventLoop,
+    mailbox: Mailbox,
+}
+
+/// The first reader before its first turn.
+fn first_reader<R: Net>(
+    rt: &R,
+    alloc: Global,
+    address: Address,
+    setup: SourceSetup,
+) -> Result<FirstReader, StartFault> {
+    let signs = Signs::new(alloc)?;
+    let (mut event_loop, mailbox) = event_loop_of(rt, alloc, &signs, address.idle_limit)?;
+    event_loop.acceptor = Some(acceptor_of(rt, alloc, &event_loop.poll, address, setup)?);
+    Ok(FirstReader {
+        signs,
+        event_loop,
+        mailbox,
+    })
+}
+
 /// The readers beside the first: what they are told by, and what each has of its own.
 struct OtherReaders {
     desks: Vec<ReaderDesk>,
@@ -238,6 +272,53 @@ fn other_readers<R: Net>(
         others.push(ReaderParts { event_loop, timers })?;
     }
     Ok(OtherReaders { desks, others })
+}
+
+/// The relay of these outputs and their workers, with all its readers.
+fn loop_of<R: Net>(
+    rt: &R,
+    first: FirstReader,
+    pools: WorkerPools,
+    address: Address,
+    routes: Routes,
+) -> Result<Loop, StartFault>
+    ensures { IfOk result (λ relay. relay ≡ map shown pools.outputs.items) }
+{
+    let alloc = pools.alloc;
+    let tally = SharedTally::new(alloc, &pools.outputs, address.has_metrics)?;
+    let timers = pools.timers()?;
+    let OtherReaders { desks, others } = other_readers(
+        rt,
+        alloc,
+        &first.signs,
+        &pools,
+        address.idle_limit,
+    )?;
+    let FirstReader {
+        signs: _,
+        event_loop,
+        mailbox,
+    } = first;
+    let WorkerPools {
+        outputs,
+        workers,
+        ..
+    } = pools;
+    let shared = Shared {
+        routes,
+        outputs,
+        mailbox,
+        desks,
+        journal_events: EventQueue::new(alloc),
+        tally,
+        pages: PageDesk::new(),
+    };
+    let own = Own {
+        first: ReaderParts { event_loop, timers },
+        others,
+        workers,
+    };
+    Ok(Loop { alloc, shared, own })
 }
 
 /// Asks for a large piece of memory, and gives it back.
@@ -277,47 +358,14 @@ impl Loop {
             limits,
             nonces: random.nonces(),
         };
-        let signs = Signs::new(alloc)?;
-        let (mut event_loop, mailbox) = event_loop_of(rt, alloc, &signs, address.idle_limit)?;
-        event_loop.acceptor = Some(acceptor_of(rt, alloc, &event_loop.poll, address, setup)?);
+        let first = first_reader(rt, alloc, address, setup)?;
         let none = WorkerPools::new(alloc, address.others);
         let run = RunOrigin {
             random: &random,
             id,
         };
         let pools = pools_of(rt, none, run, outputs.into_vec(), hops)?;
-        let first = ReaderParts {
-            event_loop,
-            timers: pools.timers()?,
-        };
-        let OtherReaders { desks, others } = other_readers(
-            rt,
-            alloc,
-            &signs,
-            &pools,
-            address.idle_limit,
-        )?;
-        let WorkerPools {
-            outputs,
-            workers,
-            ..
-        } = pools;
-        let tally = SharedTally::new(alloc, &outputs, address.has_metrics)?;
-        let shared = Shared {
-            routes,
-            outputs,
-            mailbox,
-            desks,
-            journal_events: EventQueue::new(alloc),
-            tally,
-            pages: PageDesk::new(),
-        };
-        let own = Own {
-            first,
-            others,
-            workers,
-        };
-        Ok(Loop { alloc, shared, own })
+        loop_of(rt, first, pools, address, routes)
     }
 
     /// Opens the relay, so that its turns are made one by one, and its workers are run beside them

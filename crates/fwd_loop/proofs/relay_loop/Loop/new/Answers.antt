@@ -1,7 +1,8 @@
-use Rattle.std.proofs.Common.{◌≡◌, length, map, sym, ap, ◌∙◌, arith}
+use Rattle.std.proofs.Common.{◌≡◌, List, length, map, sym, ap, subst, ◌∙◌, arith}
+use Rattle.std.specs.Prelude.{IfOk}
 use Rattle.std.proofs.lemmas.List.{length-map}
 use Rattle.fwd_config.specs.Configs.{parts_known}
-use Rattle.fwd_loop.specs.Pools.{all_made_of, hop_of}
+use Rattle.fwd_loop.specs.Pools.{OutputShown, all_made_of, hop_of}
 use Rattle.fwd_loop.proofs.Outputs.{outputs_few, outputs_count, outputs_made}
 use Rattle.fwd_loop.proofs.relay_loop.Loop.new.Goals as goal
 
@@ -20,6 +21,8 @@ pools_of-requires-clause-few g c =
 pub returns : goal.returns
 returns g c =
     let hops = c.in_ok-hops.ensures ∙ ap (map hop_of) c.as_slice.ensures in
+    let made =
     c.in_ok-pools.ensures.made
     ∙ (λ i. all_made_of (map parts_known (c.into_vec.ensures i)) (hops i))
-    ∙ outputs_made c.args.settings _ c.in_ok-routes.ensures.ok
+    ∙ outputs_made c.args.settings _ c.in_ok-routes.ensures.ok in
+    subst (λ (outputs : List OutputShown). IfOk c.loop_of.result (λ relay. relay ≡ outputs)) made c.loop_of.ensures
