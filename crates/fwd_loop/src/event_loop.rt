@@ -349,23 +349,35 @@ impl EventLoop {
         }
     }
 
-    /// Writes what waits to be sent to the next connection that is told.
+    /// Writes what waits to be sent to the next connection that is told. A source of which requests
+    /// wait is kept, as behind a visit that reads.
     fn write_next<W: Observer>(&mut self, observer: &mut W) {
-        let Some((key, connection)) = self.connections.next_writable() else {
+        let Some(ready) = self.connections.next_writable() else {
             return;
         };
-        match connection {
+        let Ready {
+            key,
+            to_end,
+            connection,
+        } = ready;
+        let after = match connection {
             Connection::Source(source) => {
                 let _ = tell_end(source, observer);
-                let stands = source.write();
-                let is_free = source.is_free();
-                if !stands {
-                    self.connections.remove(key);
-                } else if is_free {
-                    self.connections.note_ready(key, false);
-                }
+                let waits = source.waiting() > 0;
+                after_visit(source, false, waits, to_end)
             }
-            Connection::Monitor(_) => self.connections.note_ready(key, false),
+            Connection::Monitor(_) => After::Again,
+        };
+        self.settle(key, after);
+    }
+
+    /// What becomes of a connection is noted.
+    fn settle(&mut self, key: usize, after: After) {
+        match after {
+            After::Again => self.connections.note_ready(key, false),
+            After::Held => self.connections.note_held(key),
+            After::Rests => {}
+            After::Goes => self.connections.remove(key),
         }
     }
 
@@ -429,12 +441,7 @@ impl EventLoop {
                 }
             }
         };
-        match after {
-            After::Again => self.connections.note_ready(key, false),
-            After::Held => self.connections.note_held(key),
-            After::Rests => {}
-            After::Goes => self.connections.remove(key),
-        }
+        self.settle(key, after);
     }
 }
 

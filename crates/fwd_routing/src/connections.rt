@@ -158,7 +158,7 @@ pub struct Connections {
     heads: Deadlines,
 }
 
-/// A connection that is ready.
+/// A connection that is ready to be read, or may be written.
 pub struct Ready<'a> {
     pub key: usize,
     /// It is to be read to its end.
@@ -404,12 +404,16 @@ impl Connections {
         })
     }
 
-    /// The next connection that may be written, with its key.
-    pub fn next_writable(&mut self) -> Option<(usize, &mut Connection)> {
+    /// The next connection that may be written.
+    pub fn next_writable(&mut self) -> Option<Ready<'_>> {
         let key = self.writable.pop_front()?;
         let opened = self.opened.get_mut(key)?;
         opened.is_writable = false;
-        Some((key, &mut opened.connection))
+        Some(Ready {
+            key,
+            to_end: opened.is_closing,
+            connection: &mut opened.connection,
+        })
     }
 
     /// Tells each receipt to the source whose request it is of, where that still stands.
