@@ -6,9 +6,9 @@
 
 The second writes nothing, and ends with 1 where the document is not what the first would write.
 
-It writes between two marks. What a crate has is written by hand, in the second column, and stays;
-a new crate gets a question mark there. The third column leaves out what another crate in it calls,
-so that the table shows how the crates lie above each other.
+It writes between two marks, a line a crate. What the crate has is written by hand, behind the
+colon, and stays; a new crate gets a question mark there. The calls in parentheses leave out what
+another of them calls, so that the lines show how the crates lie above each other.
 """
 
 import argparse
@@ -40,20 +40,19 @@ def longest(crate, called):
 
 
 def short(name):
-    """A crate's name as the table has it."""
+    """A crate's name as a list of calls has it."""
     return name.removeprefix("fwd_")
 
 
 def written(words):
-    """What stands between the marks, with these words of each crate."""
+    """What is between the marks, with these words of each crate."""
     called = calls()
     chain = max((longest(crate, called) for crate in called), key=len)
-    text = f"The longest chain has {len(chain)} crates (without `fwd_`): `{' > '.join(map(short, chain))}`.\n\n"
-    text += "| Crate | What it has | Calls |\n|---|---|---|\n"
+    text = f"The longest chain has {len(chain)} crates: {' > '.join(map(short, chain))}.\n\n"
     for crate in reversed(called):
         hidden = set().union(*(below(one, called) for one in called[crate]))
-        shown = ", ".join(short(one) for one in called[crate] if one not in hidden)
-        text += f"| `{crate}` | {words.get(crate, '?')} | {shown or '-'} |\n"
+        shown = " ".join(short(one) for one in called[crate] if one not in hidden)
+        text += f"    {crate}: {words.get(crate, '?')}" + (f" ({shown})\n" if shown else "\n")
     return text
 
 
@@ -65,7 +64,7 @@ def main():
     if any(old.count(mark) != 1 for mark in MARKS):
         sys.exit(f"{DOCUMENT.name} has not the two marks: {' '.join(MARKS)}")
     front, middle, end = re.split("|".join(map(re.escape, MARKS)), old)
-    words = dict(re.findall(r"^\| `(\w+)` \| (.*?) \|", middle, re.MULTILINE))
+    words = dict(re.findall(r"^ {4}(\w+): (.*?)(?: \([\w ]+\))?$", middle, re.MULTILINE))
     new = f"{front}{MARKS[0]}\n{written(words)}{MARKS[1]}{end}"
     if not options.check:
         DOCUMENT.write_text(new)
