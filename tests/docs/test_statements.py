@@ -40,6 +40,24 @@ def test_pictures():
     assert shown == {"docs/MODEL.md"}
 
 
+def anchors(text):
+    """What a link may name of a document: its headings, as pages of repositories spell them."""
+    headings = re.findall(r"^#+ (.*)$", text, re.MULTILINE)
+    return {re.sub(r"[^\w\- ]", "", heading).lower().replace(" ", "-") for heading in headings}
+
+
+def test_links():
+    """Each link of a document to another, or to a part of one, leads there."""
+    for name in DOCUMENTS:
+        for link in re.findall(r"(?<!!)\[[^\]]*\]\(([^)#]*#?[^)]*)\)", text_of(name)):
+            path, _, part = link.partition("#")
+            if "://" in link:
+                continue
+            file = (TOP / name).parent / path if path else TOP / name
+            assert file.exists(), f"{name}: {link}"
+            assert not part or part in anchors(file.read_text()), f"{name}: {link}"
+
+
 def test_version():
     """The program's version is the newest of CHANGELOG, of a day that the manual page has too."""
     version = re.search(r'VERSION: &str = "(.+)";', text_of("crates/fwd_program/src/version.rt"))[1]
