@@ -16,7 +16,7 @@ set -eu
 }
 name=forward-relay
 version=$(sed -n 's/^pub const VERSION: &str = "\(.*\)";$/\1/p' crates/fwd_program/src/version.rt)
-day=$(sed -n "s/^## $version, \(.*\)\$/\1/p" CHANGELOG.md)
+day=$(sed -n "s/^## \[$version\] - \(.*\)\$/\1/p" CHANGELOG.md)
 [ -n "$day" ] || {
     echo "CHANGELOG.md has no day of version $version, or this is not the top of the repository" >&2
     exit 1
