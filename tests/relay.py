@@ -10,7 +10,7 @@ import subprocess
 import time
 
 from forward import HOST, Source
-from page import NoPage, read_page
+from page import OPENER, NoPage, read_page
 
 TOP = pathlib.Path(__file__).resolve().parent.parent
 BUILT = TOP / "crates" / "forward_relay" / "out" / "forward_relay"
@@ -150,9 +150,9 @@ class Relay:
                 count += int(is_left_out[1]) if is_left_out else 1
         return count
 
-    def until(self, what, said, seconds=DEADLINE):
+    def until(self, what, said, seconds=DEADLINE, step=0.02):
         """As `until`, with the end of the journal where it is late."""
-        return until(what, lambda: f"{said}; the journal ends {self.journal()[-2000:]}", seconds)
+        return until(what, lambda: f"{said}; the journal ends {self.journal()[-2000:]}", seconds, step)
 
     def await_line(self, pattern, seconds=DEADLINE):
         """The first line of the journal that a pattern is found in, once there is one."""
@@ -171,6 +171,13 @@ class Relay:
             return read_page(f"http://{HOST}:{self.monitor}/")
         except NoPage:
             return None
+
+    def metric(self, sample):
+        """The value of a sample of the metrics page, by its name and labels; None where there is none."""
+        with OPENER.open(f"http://{HOST}:{self.monitor}/metrics", timeout=DEADLINE) as page:
+            text = page.read().decode()
+        found = re.search(rf"^{re.escape(sample)} (\d+)$", text, re.MULTILINE)
+        return int(found[1]) if found else None
 
     def await_page(self, what, seconds=DEADLINE, number=0):
         """The counts of an output, once something is so of them."""

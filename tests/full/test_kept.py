@@ -1,11 +1,14 @@
 """What waits at a full output is kept when its source closes: it comes, each request once and in order."""
 
+import os
+import signal
 import time
 
 import pytest
 
 from forward import request
 from next_hop import hold
+from relay import steady
 
 COUNT = 12
 SIZE = 600
@@ -22,6 +25,20 @@ def burst(count, chunks=False):
         request("message", "a", [(number, {"n": text})], f"{number}" if chunks else None)
         for number, text in enumerate(texts(count))
     )
+
+
+def send_and_close(one, source, sent, pause=0):
+    """A source sends bytes and closes; without a pause the relay sees the end together with the bytes."""
+    if pause:
+        source.stream.link.sendall(sent)
+        time.sleep(pause)
+        source.close()
+        return
+    one.until(lambda: one.files() == one.idle_files + 1, "the source is not taken")
+    os.kill(one.process.pid, signal.SIGSTOP)
+    source.stream.link.sendall(sent)
+    source.close()
+    os.kill(one.process.pid, signal.SIGCONT)
 
 
 def held_back(one, hop):
@@ -42,10 +59,8 @@ def test_who_closes_behind_a_burst(relay, next_hop, pause):
     """A source that asks for nothing sends a burst and closes: what waits comes once there is room."""
     hop = next_hop(answer=hold)
     one = relay([{"servers": [hop.port], "full": "wait", "total_limit": 3_000}])
-    source = one.source()
-    source.stream.link.sendall(burst(COUNT))
-    time.sleep(pause)
-    source.close()
+    one.idle_files = steady(one.files)
+    send_and_close(one, one.source(), burst(COUNT), pause)
     held_back(one, hop)
     assert sent(hop, COUNT) == texts(COUNT)
     assert one.await_settled(COUNT).accepted == COUNT
@@ -69,12 +84,11 @@ def test_who_is_owed_much(relay, next_hop):
     """With "close" a source waits that is owed much; what it sent comes once some was answered."""
     hop = next_hop(answer=hold)
     one = relay([{"servers": [hop.port], "total_limit": 1_000_000}])
-    count = 3_000  # each takes some 520 bytes beside its entry, of 2,097,152, of which one source has a third
-    source = one.source()
-    source.stream.link.sendall(b"".join(request("message", "a", [(n, {})]) for n in range(count)))
-    source.close()
+    count = 1_700  # each takes some 520 bytes beside its entry, of 2,097,152, of which one source has a third
+    one.idle_files = steady(one.files)
+    send_and_close(one, one.source(), b"".join(request("message", "a", [(n, {})]) for n in range(count)))
     hop.await_entries(1)
-    one.await_page(lambda it: it.accepted > 1_000)
+    one.await_page(lambda it: 1_300 < it.accepted < count)
     hop.release()
     assert [moment for _, moment, _ in hop.await_entries(count)] == list(range(count))
     assert one.await_settled(count).accepted == count

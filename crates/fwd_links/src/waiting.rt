@@ -1,5 +1,7 @@
 //! How a worker waits, and how it is woken.
 
+ghost use Rattle.std.specs.Prelude.{◌≡◌, ◌/◌, min, max};
+
 use crate::fault::WaitFault;
 use crate::reserve::Reserve;
 use crate::signs::Signs;
@@ -13,11 +15,11 @@ use std::sync::{Arc, Mutex};
 use std::time::Duration;
 use std::{io, mem};
 
-/// How long a worker that looks for a chunk sleeps before it looks again, in milliseconds, where
-/// its output has entries: one that was lost is free again at some moment, of which nobody tells.
+/// How long a worker that looks for a chunk sleeps at least before it looks again, in milliseconds.
 const PAUSE: u64 = 10;
 
-/// The same where its output has none: it is woken once a chunk is closed.
+/// How long it sleeps at the most, in milliseconds, and always where its output has no entries: it
+/// is woken once a chunk is closed, and sees within this time that it is to end.
 const LONG_PAUSE: u64 = 100;
 
 /// How long a worker waits for a server that owes something, in milliseconds.
@@ -87,10 +89,30 @@ impl WorkerWaker {
 pub enum WaitMode {
     /// It was at work just now: it looks for a moment before it sleeps.
     Soon,
-    /// Its output has entries.
-    Later,
+    /// Its output has entries, and it has found no chunk for so long (milliseconds).
+    Later(u64),
     /// Its output has none.
     Idle,
+}
+
+impl WaitMode {
+    /// For how long it has found no chunk (milliseconds) once it has waited so and found none.
+    pub fn waited(self) -> u64 {
+        match self {
+            WaitMode::Soon => PAUSE,
+            WaitMode::Later(idle) => idle.saturating_add(pause_after(idle)),
+            WaitMode::Idle => 0,
+        }
+    }
+}
+
+/// How long a worker sleeps that has found no chunk for so long (both in milliseconds), though its
+/// output has entries: a tenth of that time. A chunk or server that was lost can be used again at
+/// some moment of which nobody tells; it is used at most a tenth later than its wait was long.
+fn pause_after(idle: u64) -> u64
+    ensures { result ≡ max PAUSE (min LONG_PAUSE (idle / 10)) }
+{
+    (idle / 10).min(LONG_PAUSE).max(PAUSE)
 }
 
 /// A worker's wait, as its gate and its link share them in its one thread: the lock is always
@@ -222,7 +244,7 @@ impl WorkerWait {
         }
         let (looks, pause) = match mode {
             WaitMode::Soon => (LOOKS, PAUSE),
-            WaitMode::Later => (1, PAUSE),
+            WaitMode::Later(idle) => (1, pause_after(idle)),
             WaitMode::Idle => (1, LONG_PAUSE),
         };
         if self.is_awaited_for(looks) {

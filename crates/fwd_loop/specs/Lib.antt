@@ -1,4 +1,6 @@
--- To be believed: Pools, which says what the outputs of a relay are.
+-- To be believed: Pools, which says what the outputs of a relay are; and Visits, what is known of a
+-- source behind a visit.
 pub mod Pools
+pub mod Visits
 -- Of the crate below, for those above: Ends, which says how the counts at a run's end fit together.
 pub use Rattle.fwd_routing.specs.Ends

@@ -2,14 +2,15 @@
 
 ghost use Rattle.std.specs.Prelude.{◌≡◌, ◌<◌, None, IfOk, IfSome};
 
-use crate::event_loop::{SOURCES, close_idlest};
+use crate::event_loop::SOURCES;
 use crate::listener::{Arrival, Listener};
+use crate::places::{PlaceRule, free_place, is_crowded};
 use crate::readers::ReaderDesk;
 use fwd_handshake::{Nonces, Security};
 use fwd_msgpack::Limits;
 use fwd_peers::SourcePeer;
 use fwd_routing::{
-    Connection, Connections, JournalEvent, ListenerKind, MemoryFor, MonitorPeer, Observer,
+    Connection, Connections, JournalEvent, ListenerKind, MemoryFor, MonitorPeer, Observer, Router,
 };
 use fwd_source::Source;
 use mio::net::TcpStream;
@@ -48,6 +49,8 @@ pub(crate) struct Acceptor {
     pub next_id: Option<u64>,
     /// The most sources at a time, of all readers together.
     pub limit: usize,
+    /// There are several outputs: sources that wait at some leave places to those of others.
+    pub has_other_outputs: bool,
     /// How many sources each of the other readers was handed.
     pub handed: Vec<usize>,
     /// The moment (milliseconds) at which an idle source was looked for last and none was found.
@@ -58,10 +61,12 @@ pub(crate) struct Acceptor {
 
 /// Where connections go that come at a moment.
 #[derive(Drop)]
-pub(crate) struct Incoming<'a> {
+pub(crate) struct Incoming<'a, 'p, 'r> {
     pub alloc: Global,
     pub registry: &'a Registry,
     pub connections: &'a mut Connections,
+    /// Where the first reader's sources may wait.
+    pub router: &'p mut Router<'r>,
     /// The desks of the other readers.
     pub desks: &'a [ReaderDesk],
     /// How long a source has to be silent that gives its place to a new one (milliseconds), if any
@@ -71,7 +76,7 @@ pub(crate) struct Incoming<'a> {
     pub now: u64,
 }
 
-impl<'a> Incoming<'a> {
+impl<'a, 'p, 'r> Incoming<'a, 'p, 'r> {
     /// A connection comes. Where the system or memory refuses it, which is the only error, it is
     /// dropped.
     fn add(&mut self, connection: Connection) -> Result<(), AllocError> {
@@ -128,7 +133,7 @@ impl Acceptor {
     pub fn accept_sources<R: Wait, W: Observer>(
         &mut self,
         rt: &R,
-        incoming: &mut Incoming<'_>,
+        incoming: &mut Incoming<'_, '_, '_>,
         observer: &mut W,
     ) -> bool {
         for _ in 0..ACCEPTS {
@@ -140,7 +145,7 @@ impl Acceptor {
                 }
                 Arrival::None => return false,
             };
-            if self.open_sources(incoming) >= self.limit && !self.free_place(incoming, observer) {
+            if self.is_full(incoming) && !self.free_place(rt, incoming, observer) {
                 let listener = ListenerKind::Source;
                 observer.observe(JournalEvent::OverLimit { listener, peer });
             } else if self.begin(rt, incoming, stream, peer).is_err() {
@@ -151,25 +156,43 @@ impl Acceptor {
         false
     }
 
-    /// Closes the source that is idle longest, of those that the first reader has, where one is
-    /// idle for so long, and says whether one was. Where none was, the other readers are asked to
-    /// do so in their next turns, and none is looked for again within the millisecond. One list of
-    /// all readers' sources would be a lock that each read takes.
-    fn free_place<W: Observer>(&mut self, incoming: &mut Incoming<'_>, observer: &mut W) -> bool {
-        let Some(limit) = incoming.idle_limit else {
-            return false;
+    /// Closes the source that gives its place, of those that the first reader has, and says whether
+    /// one does. Where none does, the other readers are asked to do so in their next turns, and none
+    /// is looked for again within the millisecond. One list of all readers' sources would be a lock
+    /// that each read takes.
+    fn free_place<R: Wait, W: Observer>(
+        &mut self,
+        rt: &R,
+        incoming: &mut Incoming<'_, '_, '_>,
+        observer: &mut W,
+    ) -> bool {
+        let rule = PlaceRule {
+            idle_limit: incoming.idle_limit,
+            is_crowded: self.has_other_outputs && is_crowded(self.waiting(incoming), self.limit),
+            now: incoming.now,
         };
         if self.none_idle == Some(incoming.now) {
             return false;
         }
-        if close_idlest(incoming.connections, limit, observer, incoming.now) {
+        if free_place(rt, incoming.connections, incoming.router, observer, rule) {
             return true;
         }
         self.none_idle = Some(incoming.now);
-        for desk in incoming.desks {
-            desk.want_place();
+        if rule.idle_limit.is_some() || rule.is_crowded {
+            for desk in incoming.desks {
+                desk.want_place(rule.is_crowded);
+            }
         }
         false
+    }
+
+    /// How many sources wait at outputs, of all readers together.
+    fn waiting(&self, incoming: &Incoming<'_, '_, '_>) -> usize {
+        let mut all = incoming.connections.crowding();
+        for desk in incoming.desks {
+            all = all.saturating_add(desk.crowding());
+        }
+        all
     }
 
     /// The id of the next source, if one is left. They rise, so that none is given twice.
@@ -188,7 +211,7 @@ impl Acceptor {
     fn begin<R: Wait>(
         &mut self,
         rt: &R,
-        incoming: &mut Incoming<'_>,
+        incoming: &mut Incoming<'_, '_, '_>,
         stream: TcpStream,
         peer: SocketAddr,
     ) -> Result<(), AllocError> {
@@ -203,10 +226,10 @@ impl Acceptor {
         }
     }
 
-    /// How many sources stand, of all readers together.
-    fn open_sources(&self, incoming: &Incoming<'_>) -> usize {
+    /// Whether all places are taken, by the sources of all readers together.
+    fn is_full(&self, incoming: &Incoming<'_, '_, '_>) -> bool {
         let own = incoming.connections.sources();
-        own.saturating_add(self.others(incoming.desks))
+        own.saturating_add(self.others(incoming.desks)) >= self.limit
     }
 
     /// How many sources the other readers have, whose desks these are.
@@ -220,7 +243,7 @@ impl Acceptor {
 
     /// The place among the other readers of the one with the fewest sources, or none where the
     /// first has no more than that.
-    fn next_reader(&self, incoming: &Incoming<'_>) -> Option<usize> {
+    fn next_reader(&self, incoming: &Incoming<'_, '_, '_>) -> Option<usize> {
         let mut fewest = incoming.connections.sources();
         let mut reader = None;
         let places = 0..usize::MAX;
@@ -238,7 +261,7 @@ impl Acceptor {
     fn hand<R: Wait>(
         &mut self,
         rt: &R,
-        incoming: &Incoming<'_>,
+        incoming: &Incoming<'_, '_, '_>,
         place: usize,
         source: SourcePeer,
     ) -> Result<(), AllocError> {
@@ -252,7 +275,11 @@ impl Acceptor {
     }
 
     /// Takes the monitors that wait. One too many is closed at once.
-    pub fn accept_monitors<W: Observer>(&mut self, incoming: &mut Incoming<'_>, observer: &mut W) {
+    pub fn accept_monitors<W: Observer>(
+        &mut self,
+        incoming: &mut Incoming<'_, '_, '_>,
+        observer: &mut W,
+    ) {
         let Some(listener) = &mut self.monitors else {
             return;
         };

@@ -2,19 +2,21 @@
 
 use crate::acceptor::{Acceptor, Incoming};
 use crate::fault::StartFault;
+use crate::loop_memory::LoopMemory;
 use crate::lost_servers::{LostServers, fact_of};
+use crate::places::{PlaceRule, free_place, part, tell_closed};
 use crate::readers::ReaderDesk;
 use crate::run_clock::RunClock;
-use fwd_links::{Mailbox, Notices, Signs};
-use fwd_peers::{CloseReason, PeerEnd, SourcePeer};
+use crate::visiting::{After, after_visit, note, read_source, serve_monitor, tell_end};
+use fwd_links::{Mailbox, Notices};
+use fwd_peers::{CloseReason, SourcePeer};
 use fwd_routing::{
-    Connection, Connections, Figures, JournalEvent, MemoryFor, MonitorPeer, MonitorVisit, Observer,
-    Output, PageParts, Ready, Router,
+    Connection, Connections, Figures, JournalEvent, MemoryFor, Observer, Output, PageParts, Ready,
+    Router,
 };
 use fwd_workers::WorkerEvent;
-use mio::event::Event;
 use mio::{Events, Poll, Token};
-use std::alloc::{AllocError, Global};
+use std::alloc::Global;
 use std::rt::Clock;
 use std::sync::Wait;
 use std::time::Duration;
@@ -38,18 +40,6 @@ const READING: u64 = 4;
 
 /// The longest wait while sources that are ready are not read, in milliseconds.
 const PAUSE: u64 = 5;
-
-/// How long no source is read once memory was refused for one, in milliseconds. The next to ask
-/// would be refused like it, and closed like it.
-const STARVED: u64 = 1_000;
-
-/// The same where a chunk was settled since, which gives memory back.
-const SETTLED: u64 = 100;
-
-/// How long workers take it that memory may be refused at any moment, once it was for a source, in
-/// milliseconds. They give their reserve back before each step then, without a trial: a source that
-/// is read between the trial and the step may take all that there is.
-const TIGHT: u64 = 3_000;
 
 /// How often a loop that was at work in its last turn looks for more before it sleeps: some ten
 /// microseconds. One that found nothing in its last turn sleeps at once, so that an idle relay does
@@ -90,88 +80,13 @@ pub(crate) struct EventLoop {
     pub memory: LoopMemory,
 }
 
-/// What the loop knows of memory.
-#[derive(Drop)]
-pub(crate) struct LoopMemory {
-    signs: Signs,
-    /// When it was refused for a source last, in milliseconds, if it was.
-    refused: Option<u64>,
-    /// A chunk was settled since.
-    is_settled: bool,
-    /// No source was read when the loop came to them last, though some were ready.
-    is_paused: bool,
-    /// When that was told last, in milliseconds, if it was.
-    told: Option<u64>,
-    /// It told the workers that memory was refused a short while ago.
-    is_tight: bool,
-}
-
-/// Whether so long (milliseconds) has passed at a moment since another one, if there was any.
-fn is_past(since: Option<u64>, pause: u64, now: u64) -> bool {
-    match since {
-        Some(since) => since.saturating_add(pause) <= now,
-        None => true,
-    }
-}
-
-impl LoopMemory {
-    /// None was refused. The workers tell of theirs by these signs.
-    pub fn new(signs: Signs) -> LoopMemory {
-        LoopMemory {
-            signs,
-            refused: None,
-            is_settled: false,
-            is_paused: false,
-            told: None,
-            is_tight: false,
-        }
-    }
-
-    /// Whether sources are not to be read at a moment (milliseconds): a worker lacks memory, or it
-    /// was refused for a source just now.
-    fn is_refused(&self, now: u64) -> bool {
-        let pause = if self.is_settled { SETTLED } else { STARVED };
-        !is_past(self.refused, pause, now) || self.signs.is_lacking()
-    }
-
-    /// Connections are about to be read at a moment (milliseconds).
-    fn begin_reading(&mut self, now: u64) {
-        self.is_paused = false;
-        let is_tight = !is_past(self.refused, TIGHT, now);
-        if is_tight != self.is_tight {
-            self.is_tight = is_tight;
-            if is_tight {
-                self.signs.begin_tightness();
-            } else {
-                self.signs.end_tightness();
-            }
-        }
-        self.signs.begin_reading();
-    }
-
-    /// Connections were read from a moment on (milliseconds). Where no source was, that is told,
-    /// once a second at the most.
-    fn end_reading<W: Observer>(&mut self, observer: &mut W, start: u64) {
-        self.signs.end_reading();
-        if self.is_paused && is_past(self.told, STARVED, start) {
-            self.told = Some(start);
-            observer.observe(JournalEvent::Memory(MemoryFor::Pause));
-        }
-    }
-
-    /// Memory was refused for a source at a moment (milliseconds).
-    fn refuse(&mut self, now: u64) {
-        self.refused = Some(now);
-        self.is_settled = false;
-    }
-}
-
 impl EventLoop {
     /// Takes the connections that wait at the listeners, if it has them, at a moment
     /// (milliseconds), and hands sources to the other readers, too.
     pub fn accept<R: Wait, W: Observer>(
         &mut self,
         rt: &R,
+        router: &mut Router<'_>,
         desks: &[ReaderDesk],
         observer: &mut W,
         now: u64,
@@ -183,6 +98,7 @@ impl EventLoop {
             alloc: self.alloc,
             registry: self.poll.registry(),
             connections: &mut self.connections,
+            router,
             desks,
             idle_limit: self.idle_limit,
             now,
@@ -214,11 +130,6 @@ impl EventLoop {
         }
     }
 
-    /// How many sources stand.
-    pub fn sources(&self) -> usize {
-        self.connections.sources()
-    }
-
     /// What is known of the relay at a moment (milliseconds since it started), by the first reader
     /// and the desks of the others.
     pub fn figures(&self, desks: &[ReaderDesk], now: u64) -> Figures {
@@ -243,34 +154,52 @@ impl EventLoop {
         }
     }
 
-    /// Hands in all tickets, and writes what that has sources told.
+    /// Hands in all tickets, and writes what that has sources told, at a moment (milliseconds).
     pub fn finish<R: Wait, W: Observer>(
         &mut self,
         rt: &R,
         router: &mut Router<'_>,
         observer: &mut W,
+        now: u64,
     ) {
         router.collect_all(rt, &mut self.connections, observer);
-        self.write_all(observer);
+        self.write_all(rt, router, observer, now);
     }
 
     /// Closes the connections that had their time at a moment (milliseconds), and have not shown
     /// what they are.
-    pub fn close_late<W: Observer>(&mut self, observer: &mut W, now: u64) {
+    pub fn close_late<R: Wait, W: Observer>(
+        &mut self,
+        rt: &R,
+        router: &mut Router<'_>,
+        observer: &mut W,
+        now: u64,
+    ) {
         for _ in 0..u32::MAX {
             let Some(key) = self.connections.next_late(now) else {
                 return;
             };
-            close(&mut self.connections, key, CloseReason::NoLogin, observer);
+            tell_closed(&mut self.connections, key, CloseReason::NoLogin, observer);
+            part(rt, &mut self.connections, router, key);
         }
     }
 
-    /// Closes the source that is idle longest at a moment (milliseconds), where one is idle for so
-    /// long as the settings say.
-    pub fn close_idle<W: Observer>(&mut self, observer: &mut W, now: u64) {
-        if let Some(limit) = self.idle_limit {
-            let _ = close_idlest(&mut self.connections, limit, observer, now);
-        }
+    /// Closes the source that gives its place to a new one at a moment (milliseconds), if one does;
+    /// sources that wait take more than their share, or not.
+    pub fn give_place<R: Wait, W: Observer>(
+        &mut self,
+        rt: &R,
+        router: &mut Router<'_>,
+        observer: &mut W,
+        is_crowded: bool,
+        now: u64,
+    ) {
+        let rule = PlaceRule {
+            idle_limit: self.idle_limit,
+            is_crowded,
+            now,
+        };
+        let _ = free_place(rt, &mut self.connections, router, observer, rule);
     }
 
     /// Waits from a moment on (milliseconds) until something is ready or told, and notes what is
@@ -342,16 +271,28 @@ impl EventLoop {
         }
     }
 
-    /// Writes what waits to be sent to each connection that is told.
-    pub fn write_all<W: Observer>(&mut self, observer: &mut W) {
+    /// Writes what waits to be sent to each connection that is told, at a moment (milliseconds).
+    pub fn write_all<R: Wait, W: Observer>(
+        &mut self,
+        rt: &R,
+        router: &mut Router<'_>,
+        observer: &mut W,
+        now: u64,
+    ) {
         for _ in 0..self.connections.writable() {
-            self.write_next(observer);
+            self.write_next(rt, router, observer, now);
         }
     }
 
     /// Writes what waits to be sent to the next connection that is told. A source of which requests
     /// wait is kept, as behind a visit that reads.
-    fn write_next<W: Observer>(&mut self, observer: &mut W) {
+    fn write_next<R: Wait, W: Observer>(
+        &mut self,
+        rt: &R,
+        router: &mut Router<'_>,
+        observer: &mut W,
+        now: u64,
+    ) {
         let Some(ready) = self.connections.next_writable() else {
             return;
         };
@@ -368,17 +309,26 @@ impl EventLoop {
             }
             Connection::Monitor(_) => After::Again,
         };
-        self.settle(key, after);
+        self.follow(rt, router, key, after, now);
     }
 
-    /// What becomes of a connection is noted.
-    fn settle(&mut self, key: usize, after: After) {
+    /// What becomes of a connection behind a visit is noted, at a moment (milliseconds).
+    fn follow<R: Wait>(
+        &mut self,
+        rt: &R,
+        router: &mut Router<'_>,
+        key: usize,
+        after: After,
+        now: u64,
+    ) {
         match after {
+            After::Held => return self.connections.note_held(key, now),
+            After::Kept => return self.connections.note_kept(key, now),
+            After::Goes => return part(rt, &mut self.connections, router, key),
             After::Again => self.connections.note_ready(key, false),
-            After::Held => self.connections.note_held(key),
             After::Rests => {}
-            After::Goes => self.connections.remove(key),
         }
+        self.connections.note_admitted(key);
     }
 
     /// Reads each connection that is ready, once, and has what it asks for admitted: for some
@@ -441,139 +391,8 @@ impl EventLoop {
                 }
             }
         };
-        self.settle(key, after);
+        self.follow(rt, desk.router, key, after, desk.now);
     }
-}
-
-/// What becomes of a connection behind a visit.
-#[derive(Clone, Copy)]
-enum After {
-    /// It is visited again.
-    Again,
-    /// It is visited once some request was answered, or settled.
-    Held,
-    /// It is visited once the system tells of it.
-    Rests,
-    /// It goes.
-    Goes,
-}
-
-/// Serves a monitor. Where no thread makes pages, one is made at once. The only error is out of
-/// memory.
-fn serve_monitor<R: Wait>(
-    rt: &R,
-    alloc: Global,
-    desk: &Desk<'_, '_>,
-    monitor: &mut MonitorPeer,
-    room: &mut [u8],
-) -> Result<After, AllocError> {
-    let served = monitor.serve(alloc, room, desk.now)?;
-    if !desk.are_pages_ordered {
-        if let Some(kind) = monitor.wants() {
-            let made_of = (kind, desk.figures);
-            monitor.hand_now(rt, alloc, desk.parts, made_of, desk.now)?;
-            return Ok(After::Again);
-        }
-    }
-    Ok(match served {
-        MonitorVisit::Again => After::Again,
-        MonitorVisit::Rests => After::Rests,
-        MonitorVisit::Ended => After::Goes,
-    })
-}
-
-/// Reads a source at a moment (milliseconds), and says whether there may be more. One of which
-/// requests wait is not read before they are admitted.
-fn read_source(
-    source: &mut SourcePeer,
-    alloc: Global,
-    room: &mut [u8],
-    to_end: bool,
-    now: u64,
-) -> bool {
-    if source.waiting() > 0 {
-        return true;
-    }
-    let most = source.portion(room.len());
-    let again = source.hear(alloc, &mut room[..most], to_end, now);
-    if source.is_too_long() {
-        source.refuse(CloseReason::NoLogin);
-    }
-    again
-}
-
-/// What becomes of a source behind a visit: there may be more to be read, some of its requests wait
-/// longer, and it is to be read to its end. Where its other side closed, it goes once all are
-/// admitted; or at once, where it asked to be told of the first that waits: it sends that again,
-/// and sources that give up and come back would else use up the places. One that did not ask is
-/// held until there is room.
-fn after_visit(source: &mut SourcePeer, again: bool, waits: bool, to_end: bool) -> After {
-    let stands = source.write();
-    if waits {
-        let is_left = to_end || !stands;
-        return if is_left && source.asks() {
-            After::Goes
-        } else {
-            After::Held
-        };
-    }
-    if !stands {
-        After::Goes
-    } else if again || source.is_free() {
-        After::Again
-    } else {
-        After::Rests
-    }
-}
-
-/// Notes a connection of which the system told. Where it tells only that the connection takes bytes
-/// again, there is nothing to be read.
-fn note(connections: &mut Connections, key: usize, event: &Event) {
-    let is_closing = event.is_read_closed() || event.is_error();
-    if event.is_readable() || is_closing {
-        connections.note_ready(key, is_closing);
-    } else {
-        connections.note_writable(key);
-    }
-}
-
-/// The connection of a key goes, and an observer is told why, where it is a source.
-fn close<W: Observer>(
-    connections: &mut Connections,
-    key: usize,
-    why: CloseReason,
-    observer: &mut W,
-) {
-    if let Some(Connection::Source(source)) = connections.at(key) {
-        source.refuse(why);
-        let _ = tell_end(source, observer);
-    }
-    connections.remove(key);
-}
-
-/// Closes the source that has been silent longest at a moment (milliseconds), where it has been for
-/// so long (milliseconds) and nothing is owed, and says whether there was one.
-pub(crate) fn close_idlest<W: Observer>(
-    connections: &mut Connections,
-    limit: u64,
-    observer: &mut W,
-    now: u64,
-) -> bool {
-    let Some(key) = connections.idlest(limit, now) else {
-        return false;
-    };
-    close(connections, key, CloseReason::Idle, observer);
-    true
-}
-
-/// An observer is told why the relay ends a source, where it does and that was not told yet. It
-/// says whether that is for want of memory.
-fn tell_end<W: Observer>(source: &mut SourcePeer, observer: &mut W) -> bool {
-    let Some(end) = source.why_ended() else {
-        return false;
-    };
-    observer.observe(JournalEvent::of_source(source.peer(), end, source.first_tag()));
-    matches!(end, PeerEnd::Memory)
 }
 
 /// An observer is told what workers told.

@@ -9,7 +9,9 @@ mod event_loop;
 mod fault;
 mod files;
 mod listener;
+mod loop_memory;
 mod lost_servers;
+mod places;
 mod platform;
 mod random_streams;
 mod reader;
@@ -18,6 +20,7 @@ mod relay_loop;
 mod run_clock;
 mod threads;
 mod turns;
+mod visiting;
 mod worker_pools;
 mod worker_thread;
 

@@ -117,9 +117,44 @@ impl<'a, R: Wait + Clock> Reader<'a, R> {
         self.event_loop.tell(observer);
     }
 
-    /// How many sources stand.
-    pub fn sources(&self) -> usize {
-        self.event_loop.sources()
+    /// How many sources take a place, and how many of them wait at outputs.
+    pub fn sources(&self) -> (usize, usize) {
+        let connections = &self.event_loop.connections;
+        (connections.sources(), connections.crowding())
+    }
+
+    /// Takes the connections that wait at the listeners, if it has them, at a moment
+    /// (milliseconds), and closes those that had their time and did not show what they are.
+    pub fn accept<W: Observer>(
+        &mut self,
+        rt: &R,
+        desks: &[ReaderDesk],
+        observer: &mut W,
+        now: u64,
+    ) {
+        self.event_loop
+            .accept(rt, &mut self.router, desks, observer, now);
+        self.close_late(rt, observer, now);
+    }
+
+    /// Closes the connections that had their time at a moment (milliseconds), and have not shown
+    /// what they are.
+    pub fn close_late<W: Observer>(&mut self, rt: &R, observer: &mut W, now: u64) {
+        self.event_loop
+            .close_late(rt, &mut self.router, observer, now);
+    }
+
+    /// Closes the source that gives its place to a new one at a moment (milliseconds), if one does;
+    /// sources that wait take more than their share, or not.
+    pub fn give_place<W: Observer>(
+        &mut self,
+        rt: &R,
+        observer: &mut W,
+        is_crowded: bool,
+        now: u64,
+    ) {
+        self.event_loop
+            .give_place(rt, &mut self.router, observer, is_crowded, now);
     }
 
     /// What is known of the relay at a moment (milliseconds since it started), by the first reader
@@ -155,7 +190,8 @@ impl<'a, R: Wait + Clock> Reader<'a, R> {
         self.router.hear(notices);
         self.event_loop.hear(notices);
         self.collect(rt, observer, start);
-        self.event_loop.write_all(observer);
+        self.event_loop
+            .write_all(rt, &mut self.router, observer, start);
         if self.router.has_moved() {
             self.event_loop.connections.free_held();
         }
@@ -188,12 +224,11 @@ impl<'a, R: Wait + Clock> Reader<'a, R> {
     }
 
     /// Flushes what is due at a moment (milliseconds), and wakes workers for it; counts what was
-    /// admitted; and whoever waits for room and is gone waits no more.
+    /// admitted; and looks at who waits.
     pub fn flush<W: Observer>(&mut self, rt: &R, observer: &mut W, now: u64) {
         self.router.flush(rt, now);
         self.router.count(rt, self.tally);
-        self.router
-            .tend(rt, &self.event_loop.connections, observer, now);
+        self.router.tend(rt, observer, now);
     }
 
     /// Whether another reader's sources have their turn at a full output from now on: then all
@@ -212,10 +247,10 @@ impl<'a, R: Wait + Clock> Reader<'a, R> {
             mailbox: _,
             event_loop,
             mut router,
-            clock: _,
+            mut clock,
             started: _,
         } = self;
-        event_loop.finish(rt, &mut router, observer);
+        event_loop.finish(rt, &mut router, observer, clock.moment());
         router.close(rt);
     }
 }

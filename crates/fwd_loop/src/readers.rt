@@ -17,10 +17,14 @@ pub(crate) struct ReaderDesk {
     pub mailbox: Mailbox,
     /// The sources that it is handed and has not taken.
     sources: Mutex<Vec<SourcePeer>>,
-    /// How many of those that it was handed are gone.
+    /// How many of those that it was handed take no place any more.
     gone: AtomicUsize,
+    /// How many of its sources take a place and wait at outputs.
+    crowding: AtomicUsize,
     /// A new source found no place since the reader looked last.
     wants_place: AtomicBool,
+    /// Sources that wait took more than their share then.
+    is_crowded: AtomicBool,
 }
 
 impl ReaderDesk {
@@ -30,7 +34,9 @@ impl ReaderDesk {
             mailbox,
             sources: Mutex::new(Vec::new(alloc)),
             gone: AtomicUsize::new(0),
+            crowding: AtomicUsize::new(0),
             wants_place: AtomicBool::new(false),
+            is_crowded: AtomicBool::new(false),
         }
     }
 
@@ -47,23 +53,37 @@ impl ReaderDesk {
         mem::replace(&mut *sources, Vec::new(alloc))
     }
 
-    /// So many of the sources that the reader was handed are gone.
-    pub fn note_gone(&self, gone: usize) {
+    /// So many of the sources that the reader was handed take no place any more, and so many of
+    /// those that do wait at outputs.
+    pub fn note(&self, gone: usize, crowding: usize) {
         self.gone.store(gone, Ordering::SeqCst);
+        self.crowding.store(crowding, Ordering::SeqCst);
     }
 
-    /// A new source found no place: the reader is to close one that is idle.
-    pub fn want_place(&self) {
+    /// A new source found no place: the reader is to close one that gives its own. Sources that
+    /// wait take more than their share, or not.
+    pub fn want_place(&self, is_crowded: bool) {
+        self.is_crowded.store(is_crowded, Ordering::SeqCst);
         self.wants_place.store(true, Ordering::SeqCst);
         self.mailbox.call();
     }
 
-    /// Whether a new source found no place since the last call.
-    pub fn take_want(&self) -> bool {
-        self.wants_place.load(Ordering::SeqCst) && self.wants_place.swap(false, Ordering::SeqCst)
+    /// Whether a new source found no place since the last call; and whether sources that wait took
+    /// more than their share then.
+    pub fn take_want(&self) -> Option<bool> {
+        if !self.wants_place.load(Ordering::SeqCst) {
+            return None;
+        }
+        self.wants_place.store(false, Ordering::SeqCst);
+        Some(self.is_crowded.load(Ordering::SeqCst))
     }
 
-    /// How many of them are gone.
+    /// How many of its sources take a place and wait at outputs.
+    pub fn crowding(&self) -> usize {
+        self.crowding.load(Ordering::SeqCst)
+    }
+
+    /// How many of those that it was handed take no place any more.
     pub fn gone(&self) -> usize {
         self.gone.load(Ordering::SeqCst)
     }

@@ -7,10 +7,11 @@ ghost use Rattle.fwd_loop.specs.Pools.{all_made_of, hop_of, shown, shown_by, wai
 ghost use Rattle.fwd_routing.specs.Ends.{AddUp};
 
 use crate::acceptor::{Acceptor, SourceSetup};
-use crate::event_loop::{EventLoop, LoopMemory, MONITORS, SOURCES, WAKER};
+use crate::event_loop::{EventLoop, MONITORS, SOURCES, WAKER};
 use crate::fault::StartFault;
 use crate::files::{most_files, sources_within};
 use crate::listener::Listener;
+use crate::loop_memory::LoopMemory;
 use crate::platform::Platform;
 use crate::random_streams::RandomStreams;
 use crate::reader::ReaderParts;
@@ -71,13 +72,23 @@ struct Address {
     /// Monitors are served the metrics page.
     has_metrics: bool,
     connections: u64,
+    /// There are several outputs.
+    has_other_outputs: bool,
     /// How many files the process may have open, where that leaves fewer than are set.
     few_files: Option<u64>,
     /// How many readers there are beside the first.
     others: usize,
+    each: ReaderLimits,
+}
+
+/// What each reader does about its sources.
+#[derive(Clone, Copy)]
+struct ReaderLimits {
     /// How long a source has to be silent that gives its place to a new one (milliseconds), if any
     /// does.
     idle_limit: Option<u64>,
+    /// How many sources take no place whose other side is gone, and of which requests are kept.
+    kept: u64,
 }
 
 /// Where a relay of these settings listens, how many sources it takes: as many as are set, or as
@@ -87,18 +98,23 @@ fn address_of<R: Files + AllocGlobal>(rt: &R, settings: &Settings) -> Address {
     let asked = u64::from(relay.connections);
     let others = u64::from(relay.readers).saturating_sub(1);
     let files = most_files(rt);
+    let outputs = settings.outputs.as_slice();
     let most = match files {
-        Some(files) => sources_within(files, others, settings.outputs.as_slice()),
-        None => asked,
+        Some(files) => sources_within(files, others, outputs),
+        None => asked.saturating_mul(2),
     };
     Address {
         listen: relay.listen,
         monitor: relay.monitor,
         has_metrics: relay.metrics,
         connections: asked.min(most),
+        has_other_outputs: outputs.len() > 1,
         few_files: if most < asked { files } else { None },
         others: others as usize,
-        idle_limit: relay.idle_limit,
+        each: ReaderLimits {
+            idle_limit: relay.idle_limit,
+            kept: most.saturating_sub(asked).min(asked) / (others + 1),
+        },
     }
 }
 
@@ -177,7 +193,7 @@ fn event_loop_of<R: Net>(
     rt: &R,
     alloc: Global,
     signs: &Signs,
-    idle_limit: Option<u64>,
+    limits: ReaderLimits,
 ) -> Result<(EventLoop, Mailbox), StartFault> {
     let events = Events::with_capacity(alloc, EVENTS)?;
     let room = vec![in alloc; 0; PIECE]?;
@@ -190,8 +206,8 @@ fn event_loop_of<R: Net>(
         events,
         room,
         acceptor: None,
-        connections: Connections::new(alloc),
-        idle_limit,
+        connections: Connections::new(alloc, limits.kept as usize),
+        idle_limit: limits.idle_limit,
         was_at_work: false,
         memory,
     };
@@ -218,6 +234,7 @@ fn acceptor_of<R: Net>(
         setup,
         next_id: Some(1),
         limit: address.connections as usize,
+        has_other_outputs: address.has_other_outputs,
         handed: vec![in alloc; 0; address.others]?,
         none_idle: None,
         few_files: address.few_files,
@@ -240,7 +257,7 @@ fn first_reader<R: Net>(
     setup: SourceSetup,
 ) -> Result<FirstReader, StartFault> {
     let signs = Signs::new(alloc)?;
-    let (mut event_loop, mailbox) = event_loop_of(rt, alloc, &signs, address.idle_limit)?;
+    let (mut event_loop, mailbox) = event_loop_of(rt, alloc, &signs, address.each)?;
     event_loop.acceptor = Some(acceptor_of(rt, alloc, &event_loop.poll, address, setup)?);
     Ok(FirstReader {
         signs,
@@ -261,12 +278,12 @@ fn other_readers<R: Net>(
     alloc: Global,
     signs: &Signs,
     pools: &WorkerPools,
-    idle_limit: Option<u64>,
+    limits: ReaderLimits,
 ) -> Result<OtherReaders, StartFault> {
     let mut desks = Vec::new(alloc);
     let mut others = Vec::new(alloc);
     for _ in 0..pools.others() {
-        let (event_loop, mailbox) = event_loop_of(rt, alloc, signs, idle_limit)?;
+        let (event_loop, mailbox) = event_loop_of(rt, alloc, signs, limits)?;
         desks.push(ReaderDesk::new(alloc, mailbox))?;
         let timers = pools.timers()?;
         others.push(ReaderParts { event_loop, timers })?;
@@ -292,7 +309,7 @@ fn loop_of<R: Net>(
         alloc,
         &first.signs,
         &pools,
-        address.idle_limit,
+        address.each,
     )?;
     let FirstReader {
         signs: _,

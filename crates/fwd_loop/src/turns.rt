@@ -251,8 +251,8 @@ pub(crate) fn open<'a, R: Wait + Clock>(
 
 impl<'a, R: Wait + Clock> ReaderTurns<'a, R> {
     /// One turn, as the first reader's, but for what only that does: it takes the sources that it
-    /// was handed, in place of those that wait at a listener, closes one that is idle where a new
-    /// one found no place, and has no monitors.
+    /// was handed, in place of those that wait at a listener, closes one that gives its place where
+    /// a new one found none, and has no monitors.
     ///
     /// It fails with `Poll` where the wait failed.
     pub fn turn(&mut self, rt: &R) -> Result<(), StartFault> {
@@ -276,17 +276,17 @@ impl<'a, R: Wait + Clock> ReaderTurns<'a, R> {
             reader.event_loop.take_source(source, &mut observer, now);
             self.taken = self.taken.saturating_add(1);
         }
-        reader.event_loop.close_late(&mut observer, now);
-        if self.desk.take_want() {
-            reader.event_loop.close_idle(&mut observer, now);
+        reader.close_late(rt, &mut observer, now);
+        if let Some(is_crowded) = self.desk.take_want() {
+            reader.give_place(rt, &mut observer, is_crowded, now);
         }
         let now = reader.moment();
         reader.flush(rt, &mut observer, now);
         if self.reader.passes_on() {
             call_all(self.first, self.desks);
         }
-        let open = self.reader.sources();
-        self.desk.note_gone(self.taken.saturating_sub(open));
+        let (open, crowding) = self.reader.sources();
+        self.desk.note(self.taken.saturating_sub(open), crowding);
         Ok(())
     }
 
@@ -372,8 +372,7 @@ impl<'a, R: Wait + Clock> Turns<'a, R> {
             figures: reader.figures(self.desks, now),
         };
         reader.read(rt, observer, pages);
-        reader.event_loop.accept(rt, self.desks, observer, now);
-        reader.event_loop.close_late(observer, now);
+        reader.accept(rt, self.desks, observer, now);
         let now = reader.moment();
         reader.flush(rt, observer, now);
         if self.reader.passes_on() {

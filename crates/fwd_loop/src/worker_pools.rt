@@ -10,7 +10,7 @@ use crate::worker_thread::WorkerThread;
 use fwd_core::{AckTerms, OutputConfig, OutputState};
 use fwd_handshake::Login;
 use fwd_links::WorkerWaker;
-use fwd_routing::{FlushTimer, Hearers, Output, WaitingLine};
+use fwd_routing::{FlushTimer, Hearers, Output, WaitingLine, WaitingTally};
 use fwd_workers::{Locked, Plain, SharedOutput, Worker};
 use std::alloc::{AllocError, Global};
 use std::marker::Model;
@@ -128,6 +128,7 @@ impl WorkerPools {
             is_patient,
             hearers: Hearers::new(self.alloc, self.others)?,
             line: WaitingLine::new(self.alloc),
+            waiting: WaitingTally::new(),
         })?;
         self.intervals.push(limits.interval)?;
         Ok(())

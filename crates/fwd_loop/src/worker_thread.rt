@@ -21,8 +21,8 @@ enum Next {
     AtOnce,
     /// It found none when it looked at once, or was woken: soon.
     Soon,
-    /// It found none for longer.
-    Later,
+    /// It has found none for so long (milliseconds).
+    Later(u64),
 }
 
 /// Where workers tell what they did: the first reader's mailbox, and the desks of the others.
@@ -78,7 +78,7 @@ impl<'a> WorkerGate<'a> {
 
     /// The worker looks for a chunk.
     fn look<R: Wait>(&mut self, rt: &R) {
-        let looking = match self.next {
+        let mode = match self.next {
             Next::AtOnce => {
                 self.wait.lock(rt).look_for_chunk();
                 self.next = Next::Soon;
@@ -86,14 +86,18 @@ impl<'a> WorkerGate<'a> {
             }
             _ if self.mailbox.is_stopped() => return,
             Next::Soon => WaitMode::Soon,
-            Next::Later if self.output.is_empty(rt) => WaitMode::Idle,
-            Next::Later => WaitMode::Later,
+            Next::Later(_) if self.output.is_empty(rt) => WaitMode::Idle,
+            Next::Later(idle) => WaitMode::Later(idle),
         };
         let was_woken = self
             .wait
             .lock(rt)
-            .wait_for_chunk(looking, self.mailbox.signs());
-        self.next = if was_woken { Next::Soon } else { Next::Later };
+            .wait_for_chunk(mode, self.mailbox.signs());
+        self.next = if was_woken {
+            Next::Soon
+        } else {
+            Next::Later(mode.waited())
+        };
     }
 
     /// The worker has a chunk. Where it was woken meanwhile another worker is: the wake may be for
@@ -187,7 +191,7 @@ impl WorkerThread {
             number: output,
             output: own,
             wait,
-            next: Next::Later,
+            next: Next::Later(0),
         };
         let mut clock = RunClock::new(rt, start);
         self.wait.lock(rt).refill(mailbox.signs());

@@ -37,7 +37,12 @@ use Rattle.fwd_monitor.specs.declared.measure.Measure.TheVariants.{
   Chunks,
 }
 use Rattle.fwd_monitor.specs.declared.measure.OutputFigure.{OutputFigure}
-use Rattle.fwd_monitor.specs.declared.measure.OutputFigure.TheVariants.{TotalLimit, OldestAge}
+use Rattle.fwd_monitor.specs.declared.measure.OutputFigure.TheVariants.{
+  TotalLimit,
+  OldestAge,
+  WaitingSources,
+  WaitingBytes,
+}
 use Rattle.fwd_monitor.specs.declared.measure.TagMeasure.{TagMeasure}
 use Rattle.fwd_monitor.specs.declared.measure.TagMeasure.TheVariants.{Entries, EntryBytes}
 use Rattle.fwd_monitor.specs.declared.tally.RelayTally.{RelayTally}
@@ -106,16 +111,22 @@ by_output measure reports =
 abbrev pub figure_name : OutputFigure → List ℕ
 figure_name TotalLimit = codes "forward_relay_total_limit_bytes"
 figure_name OldestAge = codes "forward_relay_oldest_chunk_age_seconds"
+figure_name WaitingSources = codes "forward_relay_waiting_sources"
+figure_name WaitingBytes = codes "forward_relay_waiting_bytes"
 
 -- what it is
 abbrev pub figure_help : OutputFigure → List ℕ
 figure_help TotalLimit = codes "The most bytes of entries that are not settled."
 figure_help OldestAge = codes "Seconds since the oldest chunk held was begun, or 0."
+figure_help WaitingSources = codes "Sources whose next request waits until it can be taken."
+figure_help WaitingBytes = codes "Bytes of the entries of the requests that wait so."
 
 -- its value
 abbrev pub figure_of : OutputFigure → OutputFigures → ℕ
 figure_of TotalLimit f = f.total_limit
 figure_of OldestAge f = f.oldest_age
+figure_of WaitingSources f = f.waiting_sources
+figure_of WaitingBytes f = f.waiting_bytes
 
 -- its sample of an output
 abbrev pub figure_line : OutputFigure → ℕ × OutputFigures → List ℕ
@@ -192,7 +203,9 @@ left_out_text reports =
 
 -- the most bytes that each output holds, and how old its oldest chunk is
 abbrev pub output_figures_text : List OutputFigures → List ℕ
-output_figures_text outputs = by_figure TotalLimit outputs ++ by_figure OldestAge outputs
+output_figures_text outputs =
+    by_figure TotalLimit outputs ++ by_figure OldestAge outputs
+    ++ by_figure WaitingSources outputs ++ by_figure WaitingBytes outputs
 
 -- when the relay started, where the clock of the system told it
 unfoldable pub start_text : Option ℕ → List ℕ

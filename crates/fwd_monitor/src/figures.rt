@@ -19,4 +19,8 @@ pub struct OutputFigures {
     /// The whole seconds since its oldest chunk was begun that is not acknowledged, and 0 where it
     /// has no such chunk.
     pub oldest_age: u64,
+    /// The sources whose next request waits until it can be taken.
+    pub waiting_sources: u64,
+    /// The bytes of the entries of those requests.
+    pub waiting_bytes: u64,
 }

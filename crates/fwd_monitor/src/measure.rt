@@ -88,6 +88,8 @@ impl Measure {
 pub(crate) enum OutputFigure {
     TotalLimit,
     OldestAge,
+    WaitingSources,
+    WaitingBytes,
 }
 
 impl OutputFigure {
@@ -98,6 +100,8 @@ impl OutputFigure {
         match self {
             OutputFigure::TotalLimit => "forward_relay_total_limit_bytes",
             OutputFigure::OldestAge => "forward_relay_oldest_chunk_age_seconds",
+            OutputFigure::WaitingSources => "forward_relay_waiting_sources",
+            OutputFigure::WaitingBytes => "forward_relay_waiting_bytes",
         }
     }
 
@@ -108,6 +112,10 @@ impl OutputFigure {
         match self {
             OutputFigure::TotalLimit => "The most bytes of entries that are not settled.",
             OutputFigure::OldestAge => "Seconds since the oldest chunk held was begun, or 0.",
+            OutputFigure::WaitingSources => {
+                "Sources whose next request waits until it can be taken."
+            }
+            OutputFigure::WaitingBytes => "Bytes of the entries of the requests that wait so.",
         }
     }
 
@@ -118,6 +126,8 @@ impl OutputFigure {
         match self {
             OutputFigure::TotalLimit => figures.total_limit,
             OutputFigure::OldestAge => figures.oldest_age,
+            OutputFigure::WaitingSources => figures.waiting_sources,
+            OutputFigure::WaitingBytes => figures.waiting_bytes,
         }
     }
 }

@@ -28,9 +28,9 @@ use fwd_base::{Report, TagCount};
 use std::alloc::{AllocError, Global};
 
 /// The metrics page in Prometheus' text format 0.0.4: what is known of the relay itself and what it
-/// counted, what each output has to do with, the most bytes that it holds and how old its oldest
-/// chunk is, what was counted of it and of its servers, and what is held of the first `MAX_TAGS`
-/// tags, with how many of each output's are left out. Outputs are numbered from 0 on. Its only
+/// counted, what each output has to do with, the most bytes that it holds, how old its oldest chunk
+/// is and what waits to be taken, what was counted of it and of its servers, and what is held of
+/// the first `MAX_TAGS` tags, with how many of each output's are left out. Outputs are numbered from 0 on. Its only
 /// error is out of memory.
 pub fn metrics_page(
     alloc: Global,
@@ -124,13 +124,16 @@ fn push_by_output(text: &mut String, measure: Measure, reports: &[Report]) -> Re
     Ok(())
 }
 
-/// Adds the most bytes that each output holds, and how old its oldest chunk is.
+/// Adds the most bytes that each output holds, how old its oldest chunk is, and what waits to be
+/// taken.
 fn push_output_figures(text: &mut String, outputs: &[OutputFigures]) -> Result<(), AllocError>
     ensures { OnOk result
         (string_bytes text.new ≡ string_bytes text.old ++ output_figures_text outputs.now) }
 {
     push_by_figure(text, OutputFigure::TotalLimit, outputs)?;
-    push_by_figure(text, OutputFigure::OldestAge, outputs)
+    push_by_figure(text, OutputFigure::OldestAge, outputs)?;
+    push_by_figure(text, OutputFigure::WaitingSources, outputs)?;
+    push_by_figure(text, OutputFigure::WaitingBytes, outputs)
 }
 
 /// Adds a gauge with a sample for each output.

@@ -1,5 +1,5 @@
 -- What becomes of a source's connection.
-use Rattle.std.specs.Prelude.{◌≡◌, ◌+◌, ◌-◌, ◌^◌, ◌<◌, ◌≤◌, ◌==◌, ◌⊎◌, ◌&&◌, ℕ, Bool, true, false, not, nat_le, nat_lt, List, [], ◌∷◌, length, take, Option, Some, None, option_map, option_and_then, if◌then◌else◌}
+use Rattle.std.specs.Prelude.{◌≡◌, ◌+◌, ◌-◌, ◌^◌, ◌<◌, ◌≤◌, ◌==◌, ◌⊎◌, ◌&&◌, ℕ, Bool, true, false, not, nat_le, nat_lt, List, [], ◌∷◌, length, take, Option, Some, None, option_map, option_and_then, is_some, if◌then◌else◌}
 use Rattle.fwd_match.specs.Patterns.{route}
 use Rattle.fwd_modes.specs.Acks.{ack_text}
 use Rattle.fwd_modes.specs.Requests.{Request}
@@ -125,6 +125,10 @@ first_asked s = first_waiting s.live s.live.waiting
 -- the output that takes it: the first whose pattern matches its tag
 abbrev pub first_route : List (List (List ℕ)) → PeerShown → Option ℕ
 first_route routes s = option_and_then (λ asked. route routes asked.1.tag) (first_asked s)
+
+-- one of its requests waits, and the sender of the first asked for an acknowledgement
+abbrev pub asks : PeerShown → Bool
+asks s = is_some (option_and_then (λ asked. asked.1.chunk) (first_asked s))
 
 -- how many bytes an acknowledgement has, where the sender asked for one
 abbrev pub ack_size : (chunk : Option (List ℕ)) → ℕ

@@ -9,6 +9,7 @@ mod limits;
 mod peer_state;
 mod source_peer;
 mod stream;
+mod waiting_place;
 
 pub use close_reason::{CloseReason, PeerEnd};
 pub use cost::upkeep;
@@ -16,3 +17,4 @@ pub use limits::{GREETING, SMALL_PIECE};
 pub use peer_state::PeerState;
 pub use source_peer::SourcePeer;
 pub use stream::{PeerStream, Visit};
+pub use waiting_place::WaitingPlace;

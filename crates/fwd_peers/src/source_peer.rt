@@ -29,6 +29,7 @@ use crate::cost::upkeep;
 use crate::limits::{ACK_FRONT, GREETING, SHORT_REQUEST, SMALL_PIECE, UNSENT};
 use crate::peer_state::PeerState;
 use crate::stream::{PeerStream, Visit};
+use crate::waiting_place::WaitingPlace;
 use fwd_book::Receipt;
 use fwd_match::Routes;
 use fwd_modes::{Batch, Origin};
@@ -66,6 +67,8 @@ pub struct SourcePeer {
     given: u64,
     /// So many of those that it gave were answered.
     answered: u64,
+    /// Where its first request waits, if it does.
+    place: Option<WaitingPlace>,
 }
 
 impl Model for SourcePeer {
@@ -160,6 +163,7 @@ impl SourcePeer {
             heard: now,
             given: 0,
             answered: 0,
+            place: None,
         }
     }
 
@@ -336,11 +340,25 @@ impl SourcePeer {
     }
 
     /// Whether a request waits, and the first that does asks for an acknowledgement.
-    pub fn asks(&self) -> bool {
+    pub fn asks(&self) -> bool
+        ensures { result ≡ peers.asks self.now }
+    {
         match self.source.peek() {
             None => false,
             Some((_, batch)) => batch.chunk().is_some(),
         }
+    }
+
+    /// Where its first request waits, if it does: the output has noted that.
+    pub fn waiting_place(&self) -> Option<WaitingPlace> {
+        self.place
+    }
+
+    /// Its first request waits there from now on, or nowhere.
+    pub fn wait_at(&mut self, place: Option<WaitingPlace>)
+        ensures { self.new ≡ self.old }
+    {
+        self.place = place;
     }
 
     /// How many requests wait to be admitted.

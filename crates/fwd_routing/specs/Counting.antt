@@ -5,7 +5,6 @@ use Rattle.fwd_modes.specs.Requests.{Request}
 use Rattle.fwd_modes.specs.declared.fault.InputFault.{InputFault}
 use Rattle.fwd_modes.specs.declared.fault.InputFault.TheVariants as input
 use Rattle.fwd_monitor.specs.declared.tally.MemoryRefused.{MemoryRefused}
-use Rattle.fwd_monitor.specs.declared.tally.OutputTally.{OutputTally}
 use Rattle.fwd_monitor.specs.declared.tally.OverLimit.{OverLimit}
 use Rattle.fwd_monitor.specs.declared.tally.RequestsRefused.{RequestsRefused}
 use Rattle.fwd_monitor.specs.declared.tally.ServerTally.{ServerTally}

@@ -1,7 +1,7 @@
 //! The connections that stand.
 
 ghost use Rattle.std.specs.Prelude.{◌≡◌, ℕ, true, IfNone, IfSome};
-ghost use Rattle.fwd_routing.specs.Idling.{IsIdlest, NoneIsIdle};
+ghost use Rattle.fwd_routing.specs.Idling.{IsCrowding, IsIdlest, NoneIsIdle};
 ghost use Rattle.fwd_routing.specs.Idling as idling;
 ghost use Rattle.fwd_routing.specs.Lateness.{IsLate, is_late, is_unknown, limit_of};
 ghost use Rattle.fwd_routing.specs.OpenConnections.{longer_idle, source_with, sources_in};
@@ -76,11 +76,17 @@ pub(crate) struct OpenConnection {
     /// The system told that its other side closed, or that it failed, which it tells once: it is
     /// read to its end from now on.
     is_closing: bool,
+    /// Since when requests of it have waited at an output, in milliseconds, if some do.
+    waits: Option<u64>,
+    /// It is a source whose other side is gone, and of which requests are kept: it takes no place.
+    is_kept: bool,
 }
 
 impl OpenConnection {
-    /// Since when it has been silent (milliseconds), where it is a source, neither it nor the relay
-    /// owes the other anything, and it does not wait to be read.
+    /// Since when it could give its place to a new one (milliseconds), where it is a source and
+    /// does not wait to be read: it has been silent, and neither it nor the relay owes the other
+    /// anything; or it waits at an output, and sends its request again, since it asked for an
+    /// acknowledgement.
     fn idle_since(&self) -> Option<u64>
         ensures { result ≡ idling.idle_since self.now }
     {
@@ -88,8 +94,37 @@ impl OpenConnection {
             return None;
         }
         match &self.connection {
+            Connection::Source(source) if source.asks() => self.waits,
             Connection::Source(source) => source.silent_since(),
             Connection::Monitor(_) => None,
+        }
+    }
+
+    /// Whether requests of it wait at an output, and it takes a place.
+    fn is_crowding(&self) -> bool
+        ensures { result ≡ idling.is_crowding self.now }
+    {
+        self.waits.is_some() && !self.is_kept
+    }
+
+    /// Which of two is to give its place first: one that was found, or this one, at a key. One that
+    /// asks goes before one that does not; of two that ask the one that waits longer, and of two
+    /// that do not the one that waits less.
+    fn first_out(&self, key: usize, found: Option<Crowder>) -> Option<Crowder> {
+        let (Some(since), Connection::Source(source)) = (self.waits, &self.connection) else {
+            return found;
+        };
+        if self.is_kept {
+            return found;
+        }
+        let own = Crowder {
+            key,
+            asks: source.asks(),
+            since,
+        };
+        match found {
+            Some(found) if found.goes_before(&own) => Some(found),
+            _ => Some(own),
         }
     }
 
@@ -112,6 +147,27 @@ impl OpenConnection {
             Connection::Monitor(_) => return false,
         }
         !mem::replace(&mut self.is_writable, true)
+    }
+}
+
+/// A source that waits and may give its place to a new one.
+#[derive(Clone, Copy)]
+struct Crowder {
+    key: usize,
+    /// It asked for an acknowledgement, and sends again.
+    asks: bool,
+    /// Since when it waits, in milliseconds.
+    since: u64,
+}
+
+impl Crowder {
+    /// Whether it gives its place before another one that waits.
+    fn goes_before(&self, other: &Crowder) -> bool {
+        match (self.asks, other.asks) {
+            (true, true) => self.since <= other.since,
+            (false, false) => self.since >= other.since,
+            (asks, _) => asks,
+        }
     }
 }
 
@@ -156,6 +212,12 @@ pub struct Connections {
     logins: Deadlines,
     /// Monitors that may have yet to send their heads.
     heads: Deadlines,
+    /// How many of the sources take a place though requests of them wait.
+    crowding: usize,
+    /// How many of the sources are kept, and take no place.
+    kept: usize,
+    /// The most that are.
+    kept_limit: usize,
 }
 
 /// A connection that is ready to be read, or may be written.
@@ -167,8 +229,9 @@ pub struct Ready<'a> {
 }
 
 impl Connections {
-    /// No connections.
-    pub fn new(alloc: Global) -> Connections {
+    /// No connections. Of the sources whose other side is gone, and of which requests wait, so many
+    /// take no place.
+    pub fn new(alloc: Global, kept_limit: usize) -> Connections {
         Connections {
             opened: Slab::new(alloc),
             ready: VecDeque::new(alloc),
@@ -178,12 +241,20 @@ impl Connections {
             monitors: Vec::new(alloc),
             logins: Deadlines::new(alloc, LOGIN_LIMIT),
             heads: Deadlines::new(alloc, HEAD_LIMIT),
+            crowding: 0,
+            kept: 0,
+            kept_limit,
         }
     }
 
-    /// How many sources stand.
+    /// How many sources take a place.
     pub fn sources(&self) -> usize {
-        self.sources.len()
+        self.sources.len().saturating_sub(self.kept)
+    }
+
+    /// How many of these wait at outputs.
+    pub fn crowding(&self) -> usize {
+        self.crowding
     }
 
     /// How many monitors stand.
@@ -219,6 +290,8 @@ impl Connections {
             is_writable: false,
             is_held: false,
             is_closing: false,
+            waits: None,
+            is_kept: false,
         };
         let Ok(key) = self.opened.insert(opened) else {
             return Err(AllocError);
@@ -323,18 +396,47 @@ impl Connections {
         }
     }
 
-    /// A source's requests wait until others are answered, or settled.
-    pub fn note_held(&mut self, key: usize) {
+    /// A source's requests wait from a moment on (milliseconds) until others are answered, or
+    /// settled.
+    pub fn note_held(&mut self, key: usize, now: u64) {
         let Some(opened) = self.opened.get_mut(key) else {
             return;
         };
+        if opened.waits.is_none() {
+            opened.waits = Some(now);
+            self.crowding = self.crowding.saturating_add(usize::from(!opened.is_kept));
+        }
         if !opened.is_held {
-            // Room for it was made when the connection came, but where keys of others that are gone
-            // stand in the queue still: it may take some then.
-            opened.is_held = self.held.push_back(key).is_ok();
-            if !opened.is_held {
-                self.note_ready(key, false);
-            }
+            opened.is_held = true;
+            // Room for it was made when the connection came.
+            let _ = self.held.push_back(key);
+        }
+    }
+
+    /// The same of a source whose other side is gone. It takes no place from now on, but where too
+    /// many do not already.
+    pub fn note_kept(&mut self, key: usize, now: u64) {
+        self.note_held(key, now);
+        if self.kept >= self.kept_limit {
+            return;
+        }
+        let Some(opened) = self.opened.get_mut(key) else {
+            return;
+        };
+        if !opened.is_kept {
+            opened.is_kept = true;
+            self.kept = self.kept.saturating_add(1);
+            self.crowding = self.crowding.saturating_sub(1);
+        }
+    }
+
+    /// No request of a source waits any more.
+    pub fn note_admitted(&mut self, key: usize) {
+        let Some(opened) = self.opened.get_mut(key) else {
+            return;
+        };
+        if opened.waits.take().is_some() && !opened.is_kept {
+            self.crowding = self.crowding.saturating_sub(1);
         }
     }
 
@@ -359,9 +461,10 @@ impl Connections {
         }
     }
 
-    /// The key of the source that has been silent longest at a moment (milliseconds), where it has
-    /// been for so long (milliseconds), and neither it nor the relay owes the other anything. All
-    /// connections are looked at. That costs less than the connection that is wanted.
+    /// The key of the source that could have given its place to a new one for longest at a moment
+    /// (milliseconds), where it could for so long (milliseconds): it has been silent, and neither
+    /// it nor the relay owes the other anything; or it waits with a request that it sends again.
+    /// All connections are looked at. That costs less than the connection that is wanted.
     pub fn idlest(&self, limit: u64, now: u64) -> Option<usize>
         ensures found { IfSome result (λ key. IsIdlest self.now limit now key) }
         ensures none { IfNone result (NoneIsIdle self.now limit now) }
@@ -377,9 +480,32 @@ impl Connections {
         Some(key)
     }
 
-    /// Whether the source of this id stands.
-    pub fn stands(&self, id: u64) -> bool {
-        self.sources.contains_key(&id)
+    /// The key of a source that waits at an output and is to give its place to a new one, if one
+    /// waits: of those that asked for an acknowledgement, and send again, the one that has waited
+    /// longest; and where none did, the one that came to wait last.
+    pub fn crowded_out(&self) -> Option<usize>
+        ensures { IfSome result (IsCrowding self.now) }
+    {
+        let mut found = None;
+        for (key, opened) in self.opened.iter() {
+            found = opened.first_out(key, found);
+        }
+        let key = found?.key;
+        if self.is_crowding(key) {
+            Some(key)
+        } else {
+            None
+        }
+    }
+
+    /// Whether the connection of this key waits at an output, and takes a place.
+    fn is_crowding(&self, key: usize) -> bool
+        ensures { result ≡ true → IsCrowding self.now key }
+    {
+        match self.opened.get(key) {
+            Some(opened) => opened.is_crowding(),
+            None => false,
+        }
     }
 
     /// How many connections are ready.
@@ -444,6 +570,7 @@ impl Connections {
 
     /// A connection goes.
     pub fn remove(&mut self, key: usize) {
+        self.forget(key);
         let Some(opened) = self.opened.try_remove(key) else {
             return;
         };
@@ -452,6 +579,20 @@ impl Connections {
                 self.sources.remove(&source.id());
             }
             Connection::Monitor(_) => self.monitors.retain(|monitor| *monitor != key),
+        }
+    }
+
+    /// A connection that goes leaves the queue of those that are held, and is counted no more.
+    fn forget(&mut self, key: usize) {
+        let Some(opened) = self.opened.get(key) else {
+            return;
+        };
+        self.kept = self.kept.saturating_sub(usize::from(opened.is_kept));
+        self.crowding = self
+            .crowding
+            .saturating_sub(usize::from(opened.is_crowding()));
+        if opened.is_held {
+            self.held.retain(|held| *held != key);
         }
     }
 }

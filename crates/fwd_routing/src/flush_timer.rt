@@ -94,4 +94,18 @@ impl FlushTimer {
             Some(last.min(now.saturating_add(STEP)))
         };
     }
+
+    /// Sources wait for room at this moment: the output is looked at again soon, also where what is
+    /// open was admitted by another reader.
+    pub(crate) fn hasten(&mut self, now: u64)
+        ensures some { is_some self.new.due ≡ true }
+        ensures soon { IfSome self.new.due (λ due. due ≤ now + STEP) }
+        ensures stays { self.new ≡ record self.old { due = self.new.due } }
+    {
+        let soon = now.saturating_add(STEP);
+        self.due = match self.due {
+            None => Some(soon),
+            Some(due) => Some(due.min(soon)),
+        };
+    }
 }

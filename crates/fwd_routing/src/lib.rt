@@ -23,6 +23,7 @@ mod page_desk;
 mod router;
 mod shared_tally;
 mod waiting_line;
+mod waiting_tally;
 
 pub use connections::{Connection, Connections, Ready};
 pub use flush_timer::FlushTimer;
@@ -36,3 +37,4 @@ pub use page_desk::PageDesk;
 pub use router::{Router, RouterParts};
 pub use shared_tally::{SharedTally, TallyObserver};
 pub use waiting_line::WaitingLine;
+pub use waiting_tally::WaitingTally;

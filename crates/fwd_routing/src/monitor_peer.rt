@@ -156,8 +156,9 @@ impl MonitorPeer {
         self.since = now;
     }
 
-    /// Reads what is there, and writes the reply once there is one, at a moment (milliseconds). The
-    /// only error is out of memory.
+    /// Reads what is there, and writes the reply once there is one, at a moment (milliseconds). A
+    /// monitor that closed its side behind its request is sent the reply all the same. The only
+    /// error is out of memory.
     pub fn serve(
         &mut self,
         alloc: Global,
@@ -168,7 +169,7 @@ impl MonitorPeer {
         if count > 0 && self.awaits_head() {
             self.take_in(alloc, &room[..count], now)?;
         }
-        Ok(if self.write(now) || (visit == Visit::Ended && self.sending.is_none()) {
+        Ok(if self.write(now) || (visit == Visit::Ended && self.awaits_head()) {
             MonitorVisit::Ended
         } else if visit == Visit::Full {
             MonitorVisit::Again

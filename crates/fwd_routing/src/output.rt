@@ -6,6 +6,7 @@ ghost use Rattle.fwd_routing.specs.Ends.{AddUp};
 
 use crate::hearers::Hearers;
 use crate::waiting_line::WaitingLine;
+use crate::waiting_tally::WaitingTally;
 use fwd_chunks::Report;
 use fwd_links::WorkerWaker;
 use fwd_monitor::OutputFigures;
@@ -28,6 +29,8 @@ pub struct Output {
     pub hearers: Hearers,
     /// Whose turn it is where sources wait.
     pub line: WaitingLine,
+    /// What waits.
+    pub waiting: WaitingTally,
 }
 
 impl Output {
@@ -78,8 +81,8 @@ fn age_at(now: u64, since: Option<u64>) -> u64
     }
 }
 
-/// The most bytes of entries that each output holds, and how old its oldest chunk is at a moment
-/// (milliseconds), in their order. Each is locked by itself for a moment. The only error is out of
+/// The most bytes of entries that each output holds, how old its oldest chunk is at a moment
+/// (milliseconds), and what waits there, in their order. Each is locked by itself for a moment. The only error is out of
 /// memory.
 pub(crate) fn figures_of<R: Wait>(
     rt: &R,
@@ -95,6 +98,8 @@ pub(crate) fn figures_of<R: Wait>(
         figures.push(OutputFigures {
             total_limit: output.total,
             oldest_age: age_at(now, output.shared.oldest(rt)),
+            waiting_sources: output.waiting.sources(),
+            waiting_bytes: output.waiting.bytes(),
         })?;
     }
     Ok(figures)

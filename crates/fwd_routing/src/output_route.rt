@@ -1,6 +1,6 @@
 //! An output as the loop sees it.
 
-ghost use Rattle.std.specs.Prelude.{◌≡◌, ℕ, List, OnOk, OnErr};
+ghost use Rattle.std.specs.Prelude.{◌≡◌, ℕ, List, true, false, OnOk, OnErr};
 ghost use Rattle.fwd_routing.specs.Admissions.{KeepsTicketOf};
 ghost use Rattle.fwd_routing.specs.OpenTickets.{AreSame};
 ghost use Rattle.fwd_routing.specs.OpenConnections.{sources_in};
@@ -42,6 +42,18 @@ fn silent_entries(batch: &Batch) -> u64
     match batch.chunk() {
         None => batch.len() as u64,
         Some(_) => 0,
+    }
+}
+
+/// Which chunks a flush closes, where sources wait for room or not.
+fn kind_of(is_crowded: bool) -> FlushKind
+    ensures crowded { is_crowded ≡ true → result ≡ FlushKind.All }
+    ensures due { is_crowded ≡ false → result ≡ FlushKind.Due }
+{
+    if is_crowded {
+        FlushKind::All
+    } else {
+        FlushKind::Due
     }
 }
 
@@ -137,19 +149,24 @@ impl<'a> OutputRoute<'a> {
 
     /// Closes the chunks that are due at a moment (milliseconds) after all admissions, and wakes a
     /// worker for each. Where no worker looks for a chunk, what is due is left open for more
-    /// entries: the next worker to look closes it.
-    pub fn flush<R: Wait>(&mut self, rt: &R, now: u64)
+    /// entries: the next worker to look closes it. Where sources wait for room, all chunks are due:
+    /// only what is sent makes room.
+    pub fn flush<R: Wait>(&mut self, rt: &R, now: u64, is_crowded: bool)
         ensures { self.new.open_tickets ≡ self.old.open_tickets }
     {
         self.timer.look(now);
         let is_due = self.timer.due().is_some_and(|due| due <= now);
-        if !is_due {
+        if is_due {
+            self.timer.flushed(now);
+        }
+        if !is_due && !is_crowded {
             return;
         }
-        self.timer.flushed(now);
         if self.output.is_awaited() {
-            let count = self.output.shared.flush(rt, now, FlushKind::Due);
+            let count = self.output.shared.flush(rt, now, kind_of(is_crowded));
             self.output.wake(count);
+        } else if is_crowded {
+            self.timer.hasten(now);
         }
     }
 

@@ -80,24 +80,6 @@ fn close_all<R: Wait>(rt: &R, router: Vec<OutputRoute<'_>>) {
     rest.destroy_empty();
 }
 
-/// Who waits first for room and is gone waits no more. It says whether somebody else is first then.
-fn let_go<R: Wait>(
-    rt: &R,
-    output: &Output,
-    intake: &mut Intake,
-    connections: &Connections,
-) -> bool {
-    let mut has_left = false;
-    for _ in 0..u16::MAX {
-        match intake.first() {
-            Some(id) if !connections.stands(id) => intake.leave(rt, output),
-            _ => break,
-        }
-        has_left = true;
-    }
-    has_left && intake.is_awaited()
-}
-
 /// What a router is made of: the number of its reader, where requests go, and the timer of each
 /// output.
 #[derive(Drop)]
@@ -241,9 +223,10 @@ impl<'a> Router<'a> {
     }
 
     /// Whether the first request that waits at a source may be handed in at the output of this
-    /// number.
-    fn lets_in<R: Wait>(&mut self, rt: &R, output: u16, source: &SourcePeer) -> bool
-        ensures { self.new ≡ self.old }
+    /// number. Where it may not, it waits there from now on.
+    fn lets_in<R: Wait>(&mut self, rt: &R, output: u16, source: &mut SourcePeer) -> bool
+        ensures this { self.new ≡ self.old }
+        ensures source { source.new ≡ source.old }
     {
         let Some(own) = self.outputs.get(output as usize) else {
             return true;
@@ -252,11 +235,31 @@ impl<'a> Router<'a> {
             return true;
         };
         own.hearers.enter(self.reader);
-        let lets_in = intake.lets_in(rt, own, source);
-        // Whoever is next in line may have room too.
-        let is_awaited = intake.is_awaited();
-        self.is_moved = self.is_moved || (lets_in && is_awaited);
-        lets_in
+        let entry = intake.ask(rt, own, output, source);
+        self.is_moved = self.is_moved || entry.passes_on;
+        entry.lets_in
+    }
+
+    /// A source goes: it waits at no output any more, and whoever is next in line may be admitted.
+    pub fn leave<R: Wait>(&mut self, rt: &R, source: &mut SourcePeer)
+        ensures this { self.new ≡ self.old }
+        ensures source { source.new ≡ source.old }
+    {
+        let Some(place) = source.waiting_place() else {
+            return;
+        };
+        let Some(own) = self.outputs.get(place.output as usize) else {
+            return;
+        };
+        own.waiting.release(source);
+        if !place.is_in_line {
+            return;
+        }
+        let Some(intake) = self.intakes.get_mut(place.output as usize) else {
+            return;
+        };
+        let is_moved = intake.leave(rt, own, source.id());
+        self.is_moved = self.is_moved || is_moved;
     }
 
     /// The output of this number owes an answer to a request more, which takes so many bytes beside
@@ -278,20 +281,13 @@ impl<'a> Router<'a> {
         mem::replace(&mut self.is_moved, false)
     }
 
-    /// Who waits first for room at an output and is gone waits no more, at a moment (milliseconds);
-    /// and an observer is told at which outputs sources wait.
-    pub fn tend<R: Wait, W: Observer>(
-        &mut self,
-        rt: &R,
-        connections: &Connections,
-        observer: &mut W,
-        now: u64,
-    )
+    /// Whether a source that waits has its turn now by other readers, which is looked at again; and
+    /// an observer is told at which outputs sources wait, at a moment (milliseconds).
+    pub fn tend<R: Wait, W: Observer>(&mut self, rt: &R, observer: &mut W, now: u64)
         ensures { self.new.routes ≡ self.old.routes }
     {
         for ((output, own), intake) in (0..u16::MAX).zip(self.outputs).zip(&mut self.intakes) {
-            let is_moved = let_go(rt, own, intake, connections) || intake.gets_turn(rt, own);
-            self.is_moved = is_moved || self.is_moved;
+            self.is_moved = intake.gets_turn(rt, own) || self.is_moved;
             match intake.crowd(own, now) {
                 None => {}
                 Some(Crowd::Waits(sources)) => observer.observe(JournalEvent::Full {
@@ -340,7 +336,8 @@ impl<'a> Router<'a> {
         wait
     }
 
-    /// Closes the chunks that are due at a moment (milliseconds) after all admissions.
+    /// Closes the chunks that are due at a moment (milliseconds) after all admissions; and all of an
+    /// output at which sources wait for room, where a worker could send them.
     pub fn flush<R: Wait>(&mut self, rt: &R, now: u64)
         ensures { self.new.routes ≡ self.old.routes }
     {
@@ -353,10 +350,19 @@ impl<'a> Router<'a> {
     fn flush_at<R: Wait>(&mut self, rt: &R, place: usize, now: u64)
         ensures { self.new.routes ≡ self.old.routes }
     {
+        let is_crowded = self.is_crowded(place);
         let Some(output_route) = self.all.get_mut(place) else {
             return;
         };
-        output_route.flush(rt, now);
+        output_route.flush(rt, now, is_crowded);
+    }
+
+    /// Whether sources wait for room at the output at a place.
+    fn is_crowded(&self, place: usize) -> bool {
+        match self.intakes.get(place) {
+            Some(intake) => intake.is_awaited(),
+            None => false,
+        }
     }
 
     /// Counts the entries that were accepted since the last call whose sources asked for no

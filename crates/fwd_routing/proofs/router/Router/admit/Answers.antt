@@ -1,1 +1,0 @@
-use Rattle.fwd_routing.proofs.router.Router.admit.Goals as goal
