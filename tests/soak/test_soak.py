@@ -15,17 +15,15 @@ between, and for no leak.
 """
 
 import os
-import pathlib
 import threading
 import time
 
 import pytest
 
-from relay import free_ports, until
+from relay import TOP, free_ports, until
 from soak import load as loads
 from stress.waits import Child
 
-NEXT_HOP = pathlib.Path(__file__).parents[1] / "next_hop.py"
 MINUTES = int(os.environ.get("SOAK_MINUTES", "60"))
 WAITS = {"flush_interval": 50, "retry_wait": 100, "retry_max": 500}
 
@@ -39,7 +37,7 @@ class Server:
 
     def start(self, way):
         """Starts it: a silent one acknowledges nothing."""
-        self.child = Child(NEXT_HOP, self.port, way)
+        self.child = Child(TOP / "tools" / "next_hop.py", self.port, way)
 
     def end(self):
         """Kills it."""

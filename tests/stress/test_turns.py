@@ -7,8 +7,8 @@ import pytest
 
 from forward import Source, connect
 from next_hop import hold
-from relay import free_ports, until
-from stress.waits import HERE, RECORD, TIME, Child, Owed, Probe, once_more, text, within
+from relay import TOP, free_ports, until
+from stress.waits import RECORD, TIME, Child, Owed, Probe, once_more, text, within
 
 pytestmark = pytest.mark.minutes
 KEY = "a key of both sides"
@@ -31,7 +31,7 @@ HELD = {
 def prompt():
     """A server that acknowledges at once, as a process of its own, and the output that has it."""
     port = free_ports(1)[0]
-    with Child(HERE.parent / "next_hop.py", port, "quiet") as child:
+    with Child(TOP / "tools" / "next_hop.py", port, "quiet") as child:
         yield child, {"match": "probe", "servers": [port]}
 
 
