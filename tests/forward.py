@@ -49,6 +49,20 @@ class Stream(Values):
     def __exit__(self, *_):
         self.link.close()
 
+    def hears_nothing(self, seconds):
+        """Asks that for so long the other side neither sends a value nor closes."""
+        before = self.link.gettimeout()
+        self.link.settimeout(seconds)
+        try:
+            came = self.value()
+        except TimeoutError:
+            return
+        except ConnectionError as error:
+            came = error
+        finally:
+            self.link.settimeout(before)
+        raise AssertionError(f"nothing was to come, and there came {came!r}")
+
     def is_closed(self, seconds):
         """Whether the other side closes within so long; what it sends before is passed over."""
         self.link.settimeout(seconds)
@@ -118,6 +132,10 @@ class Source:
         self.send(tag, entries, mode, chunk)
         told = self.told()
         assert told == chunk, f"told {told!r} of {chunk!r}"
+
+    def hears_nothing(self, seconds):
+        """Asks that for so long the relay neither tells anything nor closes."""
+        self.stream.hears_nothing(seconds)
 
     def is_closed(self, seconds=30):
         """Whether the relay closes the connection within so long."""

@@ -125,8 +125,7 @@ def test_before_a_ping(relay, next_hop):
     with connect(one.port) as stream:
         said = msgpack.packb(ping(stream.value(), KEY, salt=bytes(3_700)))
         stream.link.sendall(said[:2_000])
-        assert not stream.is_closed(0.2)
-        stream.link.settimeout(30)
+        stream.hears_nothing(0.2)
         stream.link.sendall(said[2_000:])
         assert stream.value()[:2] == ["PONG", True]
     with connect(one.port) as stream:
@@ -142,7 +141,7 @@ def test_who_does_not_log_in(relay, next_hop):
     silent = [keyed.source(key=KEY), open_to_all.source()]
     with connect(keyed.port) as late:
         late.value()
-        assert not late.is_closed(20)
+        late.hears_nothing(20)
         assert late.is_closed(30), "it has not logged in, and stays"
     keyed.await_line("source closed: .* NoLogin")
     for source in silent:
