@@ -17,8 +17,6 @@ BUILT = TOP / "crates" / "forward_relay" / "out" / "forward_relay"
 DEADLINE = 60  # seconds within which what is to happen happens, however busy the machine is
 TICK = os.sysconf("SC_CLK_TCK")
 HELD = []  # sockets that keep ports for this process
-# How many threads read the sources of each relay, if not one.
-READERS = {"readers": int(os.environ["READERS"])} if "READERS" in os.environ else {}
 STAMP = re.compile(r"^\d{4}-\d\d-\d\dT\d\d:\d\d:\d\d\.\d{3}Z ", re.MULTILINE)
 
 
@@ -100,7 +98,7 @@ class Relay:
     def __init__(self, program, folder, outputs, turns=None, under=(), environment=None, **relay):
         self.folder = pathlib.Path(folder)
         self.port, self.monitor = free_ports(2)
-        keys = {"listen": f"{HOST}:{self.port}", "monitor": f"{HOST}:{self.monitor}"} | READERS | relay
+        keys = {"listen": f"{HOST}:{self.port}", "monitor": f"{HOST}:{self.monitor}"} | relay
         self.path = self.folder / f"relay-{self.port}.toml"
         self.path.write_text(settings(keys, outputs))
         self.journal_path = self.folder / f"journal-{self.port}"

@@ -25,6 +25,7 @@ import pytest
 
 from relay import Relay, free_ports, is_listened_at, until
 
+pytestmark = pytest.mark.parametrize("readers", [1, 4])
 HERE = pathlib.Path(__file__).parent
 SEED = 7
 LAST = 120  # seconds that the clients have to end, and the last lines to come
@@ -64,7 +65,7 @@ class Part:
 
 
 @pytest.fixture
-def chain(program, tmp_path):
+def chain(program, tmp_path, readers):
     """The three parts, which end with the test."""
     near, far, server = free_ports(3)
     first = {

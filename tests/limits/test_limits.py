@@ -59,8 +59,7 @@ def test_more_sources_than_files(relay, next_hop):
 @pytest.mark.parametrize(("workers", "readers"), [(1, 1), (7, 1), (1, 3)])
 def test_files_that_are_kept_apart(relay, next_hop, workers, readers):
     """16 files of its own, 16 for monitors, 5 for each worker and 2 for each reader beside the first: sources have the others."""
-    keys = {"under": few(FILES), "connections": 1024, "readers": readers}
-    one = relay([{"servers": [next_hop().port], "workers": workers}], **keys)
+    one = relay([{"servers": [next_hop().port], "workers": workers}], under=few(FILES), connections=1024)
     sources = FILES - 16 - 16 - 5 * workers - 2 * (readers - 1)
     assert one.await_line("few files: ") == f"few files: {FILES} open at most, {sources} sources"
 

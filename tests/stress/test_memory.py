@@ -10,7 +10,7 @@ from next_hop import hold
 from relay import until
 from stress.waits import ENTRY, Owed, filled, once_more, request, requests, within
 
-pytestmark = pytest.mark.minutes
+pytestmark = [pytest.mark.minutes, pytest.mark.parametrize("readers", [1, 4])]
 MANY, WARM, SOURCES = 1_000_000, 10_000, 8
 HELD = {
     "chunk_limit": 8_000_000,

@@ -11,7 +11,7 @@ from next_hop import NextHop
 from relay import free_ports
 from stress.waits import once_more, within
 
-pytestmark = pytest.mark.minutes
+pytestmark = [pytest.mark.minutes, pytest.mark.parametrize("readers", [1, 4])]
 KEY = "a key of both sides"
 OUTPUTS, WORKERS, FLUSH = 64, 16, 50
 IDLE = 10  # seconds

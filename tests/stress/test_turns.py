@@ -10,7 +10,7 @@ from next_hop import hold
 from relay import TOP, free_ports, until
 from stress.waits import RECORD, TIME, Child, Owed, Probe, once_more, text, within
 
-pytestmark = pytest.mark.minutes
+pytestmark = [pytest.mark.minutes, pytest.mark.parametrize("readers", [1, 4])]
 KEY = "a key of both sides"
 LONG = b"\xdd\x00\xff\xff\xf0"  # an array of 16,777,200 values
 ZEROS = 16_000_000
