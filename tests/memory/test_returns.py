@@ -66,7 +66,7 @@ def begun(one):
             return one
         except AssertionError:
             assert "start: thread" in one.journal(), one.journal()
-            one.journal_path.write_text("")
+            one.said_path.write_text("")
     raise AssertionError("no thread at each of twenty starts")
 
 

@@ -54,7 +54,7 @@ def start(one, board, shim, one_in):
             return one.start()
         except AssertionError:
             assert one.ended() == 4 and START.fullmatch(one.journal().splitlines()[-1]), one.journal()
-            one.journal_path.write_text("")
+            one.said_path.write_text("")
     raise AssertionError("it ends at each of fifty starts")
 
 

@@ -1,14 +1,15 @@
 """One source must not occupy the loop: what it sends, and what it is owed, holds others up for at most 100 ms."""
 
 import struct
+import sys
 import time
 
 import pytest
 
 from forward import Source, connect
 from next_hop import hold
-from relay import TOP, free_ports, until
-from stress.waits import RECORD, TIME, Child, Owed, Probe, once_more, text, within
+from relay import TOP, Child, free_ports, until
+from stress.waits import RECORD, TIME, Owed, Probe, once_more, text, within
 
 pytestmark = [pytest.mark.minutes, pytest.mark.parametrize("readers", [1, 4])]
 KEY = "a key of both sides"
@@ -28,10 +29,11 @@ HELD = {
 
 
 @pytest.fixture
-def prompt():
+def prompt(tmp_path):
     """A server that acknowledges at once, as a process of its own, and the output that has it."""
     port = free_ports(1)[0]
-    with Child(TOP / "tools" / "next_hop.py", port, "quiet") as child:
+    words = [sys.executable, TOP / "tools" / "next_hop.py", port, "quiet"]
+    with Child(words, tmp_path / "prompt", port).start() as child:
         yield child, {"match": "probe", "servers": [port]}
 
 

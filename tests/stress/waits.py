@@ -10,6 +10,7 @@ import sys
 import threading
 
 from forward import connect
+from relay import Child
 
 HERE = pathlib.Path(__file__).parent
 TIME = b"\xce\x65\x00\x00\x00"
@@ -43,27 +44,14 @@ def once_more(test):
     return play
 
 
-class Child:
-    """A program of Python beside a test, which ends with its block."""
-
-    def __init__(self, *words):
-        words = [sys.executable, *map(str, words)]
-        self.process = subprocess.Popen(words, stdin=subprocess.PIPE, stdout=subprocess.PIPE, bufsize=0)
-
-    def __enter__(self):
-        return self
-
-    def __exit__(self, *_):
-        self.process.kill()
-        self.process.communicate()
-
-
 class Probe(Child):
     """Who asks again and again (`probe.py`), beside processes that may wait for a core too."""
 
     def __init__(self, kind, port, parts, *key):
         pids = ",".join(str(part.process.pid) for part in parts)
-        super().__init__(HERE / "probe.py", kind, port, pids, *key)
+        words = [sys.executable, HERE / "probe.py", kind, port, pids, *key]
+        super().__init__(words, parts[0].said_path.with_name(f"probe-{kind}"))
+        self.begin(stdin=subprocess.PIPE, stdout=subprocess.PIPE, bufsize=0)
         self.hear()
 
     def hear(self):
