@@ -1,4 +1,4 @@
-"""One source must not occupy the loop: what it sends, and what it is owed, holds others up for at most 100 ms."""
+"""One source must not occupy the loop: what it sends, and what it is owed, is to hold others up for at most 100 ms."""
 
 import struct
 import sys
@@ -9,7 +9,7 @@ import pytest
 from forward import Source, connect
 from next_hop import hold
 from relay import TOP, Child, free_ports, until
-from stress.waits import RECORD, TIME, Owed, Probe, once_more, text, within
+from stress.waits import RECORD, TIME, Owed, Probe, text, within
 
 pytestmark = [pytest.mark.minutes, pytest.mark.parametrize("readers", [1, 4])]
 KEY = "a key of both sides"
@@ -17,7 +17,6 @@ LONG = b"\xdd\x00\xff\xff\xf0"  # an array of 16,777,200 values
 ZEROS = 16_000_000
 DRIP = 3  # seconds of single bytes
 MANY = 1_000_000
-LEAST = 100  # ms that others may wait
 HELD = {
     "match": "held",
     "chunk_limit": 8_000_000,
@@ -51,7 +50,6 @@ def attack(port):
     return False
 
 
-@once_more
 def test_long_array(relay, prompt):
     """An array of 16 MB, and single bytes behind it."""
     server, output = prompt
@@ -60,10 +58,9 @@ def test_long_array(relay, prompt):
         time.sleep(0.5)
         probe.since()
         assert not attack(one.port), "the source was closed, though its array may be as long"
-        probe.waited("others wait", LEAST)
+        probe.waited("others wait")
 
 
-@once_more
 def test_long_array_before_a_ping(relay, prompt):
     """The same where a key is set: it is closed, since no more than 4,096 bytes may wait before a PING."""
     server, output = prompt
@@ -74,9 +71,9 @@ def test_long_array_before_a_ping(relay, prompt):
         start = time.monotonic()
         assert attack(one.port), "the source was not closed"
         took = time.monotonic() - start
-        probe.waited("others wait", LEAST)
+        probe.waited("others wait")
     one.await_line("source closed: .* NoLogin")
-    within("closed within, s", took, 2)
+    within("closed within, s", took, 2, 30)
 
 
 def hold_all(one, hop, owed, before):
@@ -87,7 +84,6 @@ def hold_all(one, hop, owed, before):
     time.sleep(0.5)
 
 
-@once_more
 def test_many_settled(relay, next_hop, prompt):
     """A million requests that are settled at once, and a source that closes while it is owed another million.
 
@@ -103,8 +99,8 @@ def test_many_settled(relay, next_hop, prompt):
         hop.release()
         first.join(60)
         assert first.is_told, "the source is not told of each request once"
-        asks.waited("others wait, as all are settled", LEAST)
-        looks.waited("the page, as all are settled", LEAST)
+        asks.waited("others wait, as all are settled")
+        looks.waited("the page, as all are settled")
         first.close()
         hop.answer = hold
         second = Owed(one.port, MANY)
@@ -112,13 +108,13 @@ def test_many_settled(relay, next_hop, prompt):
         asks.since(), looks.since()
         second.close()
         time.sleep(2)
-        asks.waited("others wait, as the source closes", LEAST)
-        looks.waited("the page, as the source closes", LEAST)
+        asks.waited("others wait, as the source closes")
+        looks.waited("the page, as the source closes")
         hop.release()
         one.await_settled(2 * MANY)
         time.sleep(1)
-        asks.waited("others wait, as its requests are settled", LEAST)
-        looks.waited("the page, as its requests are settled", LEAST)
+        asks.waited("others wait, as its requests are settled")
+        looks.waited("the page, as its requests are settled")
 
 
 def cost(relay, next_hop, count):
@@ -135,8 +131,7 @@ def cost(relay, next_hop, count):
         return one.processor() - before
 
 
-@once_more
 def test_many_chunks(relay, next_hop):
-    """A request of 80,000 entries, each in a chunk of its own, costs at most 2.6 times what one of 40,000 costs."""
+    """80,000 entries, each in a chunk of its own, are to cost at most 2.6 times what 40,000 cost; the square would be 4 times."""
     half, whole = cost(relay, next_hop, 40_000), cost(relay, next_hop, 80_000)
-    within(f"twice as many cost, times ({half:.2f} s and {whole:.2f} s)", whole / half, 2.6)
+    within(f"twice as many cost, times ({half:.2f} s and {whole:.2f} s)", whole / half, 2.6, 3.6)
