@@ -71,8 +71,9 @@ def free_ports(count):
 
 
 def table(head, keys):
-    """A table of TOML. JSON spells its texts, numbers and truths alike."""
-    return f"{head}\n" + "".join(f"{key} = {json.dumps(value)}\n" for key, value in keys.items())
+    """A table of TOML, without keys that are None. JSON spells its texts, numbers and truths alike."""
+    lines = (f"{key} = {json.dumps(value)}\n" for key, value in keys.items() if value is not None)
+    return f"{head}\n" + "".join(lines)
 
 
 def settings(relay, outputs):
@@ -134,9 +135,20 @@ class Child:
             os.killpg(self.process.pid, signal.SIGKILL)
         return self.process.wait()
 
+    def end(self):
+        """Asks it and its children to end: the status."""
+        if self.is_up():
+            os.killpg(self.process.pid, signal.SIGTERM)
+        return self.ended()
+
     def ended(self, seconds=DEADLINE):
         """The status that it ends with by itself."""
         return self.process.wait(seconds)
+
+    def processor(self):
+        """The processor seconds of all its threads, and of its children that have ended."""
+        fields = pathlib.Path(f"/proc/{self.process.pid}/stat").read_text().rpartition(")")[2].split()
+        return sum(map(int, fields[11:15])) / TICK
 
     def said(self):
         """What it said."""
@@ -245,11 +257,6 @@ class Relay(Child):
     def files(self):
         """How many files it has open."""
         return len(os.listdir(f"/proc/{self.process.pid}/fd"))
-
-    def processor(self):
-        """The processor seconds of all its threads."""
-        fields = pathlib.Path(f"/proc/{self.process.pid}/stat").read_text().rpartition(")")[2].split()
-        return (int(fields[11]) + int(fields[12])) / TICK
 
 
 def is_listened_at(port):
