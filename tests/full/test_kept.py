@@ -7,6 +7,7 @@ import pytest
 from forward import request
 from next_hop import hold
 
+pytestmark = pytest.mark.parametrize("readers", [1, 4])
 COUNT = 12
 SIZE = 600
 
