@@ -5,7 +5,7 @@
 
 It needs valgrind and cc. PROGRAM is a built forward_relay, as crates/forward_relay/out/forward_relay; MODE is packed,
 forward or message (packed), and ENTRIES how many are sent (200000), over ten connections, a hundred in a request (one, in
-Message mode), as in the rows of relay.sh. What a run takes with a tenth of them is taken off, so that starting counts for
+Message mode), as in the rows of relay.py. What a run takes with a tenth of them is taken off, so that starting counts for
 nothing. The kernel's instructions are not counted, and valgrind runs one thread at a time, so that the counts hang little
 on the machine.
 

@@ -15,23 +15,18 @@ from next_hop import NextHop
 
 JOURNAL = journal_pattern()
 GO = pathlib.Path("/usr/share/gocode")
-THREADED = {"chain", "full", "sockets", "memory", "stress"}  # whose tests run with one reading thread and with four
 
 
-def pytest_generate_tests(metafunc):
-    """Has each test of a running relay, in some folders, run with one reading thread and with four, unless it says how many."""
-    runs = "relay" in metafunc.fixturenames or hasattr(metafunc.module, "Relay")
-    if runs and not hasattr(metafunc.module, "READERS") and metafunc.definition.path.parent.name in THREADED:
-        metafunc.fixturenames.append("readers")
-        metafunc.parametrize("readers", [1, 4], ids=["1-reader", "4-readers"])
+def pytest_addoption(parser):
+    """How many threads read, in the tests that do not say it."""
+    text = "threads that read the sources of each relay whose test does not say how many"
+    parser.addoption("--readers", type=int, default=1, help=text)
 
 
-@pytest.fixture(autouse=True)
-def reading(request, monkeypatch):
-    """So many threads read the sources of each relay that the test starts, where it runs with several numbers of them."""
-    params = getattr(getattr(request.node, "callspec", None), "params", {})
-    if isinstance(params.get("readers"), int) and not hasattr(request.module, "READERS"):
-        monkeypatch.setattr(relays, "READERS", {"readers": params["readers"]})
+@pytest.fixture
+def readers(request):
+    """How many threads read the sources of each relay of a test: the test's parameter of this name, or the option."""
+    return request.config.getoption("--readers")
 
 
 @pytest.fixture
@@ -44,7 +39,7 @@ def program():
 
 
 @pytest.fixture
-def relay(program, tmp_path, request):
+def relay(program, tmp_path, readers, request):
     """Starts relays by settings: `relay([{"servers": [hop.port]}], connections=2)`.
 
     They end with the test, and not before, and may have said only lines that docs/FORMATS.md has.
@@ -52,7 +47,7 @@ def relay(program, tmp_path, request):
     started = []
 
     def start(outputs, errors=None, stdout=subprocess.DEVNULL, **how):
-        started.append(relays.Relay(program, tmp_path, outputs, **how))
+        started.append(relays.Relay(program, tmp_path, outputs, **{"readers": readers, **how}))
         return started[-1].start(errors, stdout)
 
     yield start

@@ -35,6 +35,15 @@ def spans(text):
     return re.findall(r"`([^`]+)`", text)
 
 
+def recipe(name, changes):
+    """The text of an example for another program, with these texts in place of those that it has."""
+    text = text_of(f"examples/{name}")
+    for old, new in changes.items():
+        assert old in text, f"examples/{name} has no {old!r}"
+        text = text.replace(old, new)
+    return text
+
+
 def blocks(text):
     """The indented blocks of a document, each without its indent."""
     found = re.findall(r"(?:^ {4}.*\n(?:\n(?= {4}))?)+", text, re.MULTILINE)

@@ -1,12 +1,11 @@
 """The Forward Protocol v1 as sources and servers speak it, over python3-msgpack."""
 
-import hashlib
-import os
 import socket
 
 import msgpack
 
-HOST = "127.0.0.1"
+from next_hop import HOST, Values, digest
+
 MODES = ("message", "forward", "packed")
 
 
@@ -41,19 +40,8 @@ def request(mode, tag, entries, chunk=None):
     return msgpack.packb([tag, packed(entries), *option])
 
 
-def digest(*parts):
-    """A digest of the handshake, over texts and bytes."""
-    joined = b"".join(part.encode() if isinstance(part, str) else part for part in parts)
-    return hashlib.sha512(joined).hexdigest()
-
-
-class Stream:
-    """The values that go over a connection."""
-
-    def __init__(self, link, timeout=30):
-        self.link, self.values = link, msgpack.Unpacker(strict_map_key=False, max_buffer_size=0)
-        link.setsockopt(socket.IPPROTO_TCP, socket.TCP_NODELAY, 1)
-        link.settimeout(timeout)
+class Stream(Values):
+    """A connection of a test."""
 
     def __enter__(self):
         return self
@@ -61,19 +49,19 @@ class Stream:
     def __exit__(self, *_):
         self.link.close()
 
-    def send(self, value):
-        """Sends a value."""
-        self.link.sendall(msgpack.packb(value))
-
-    def value(self):
-        """The next value; ConnectionError where the other side closed."""
-        while True:
-            for value in self.values:
-                return value
-            piece = self.link.recv(1 << 18)
-            if not piece:
-                raise ConnectionError("closed by the other side")
-            self.values.feed(piece)
+    def hears_nothing(self, seconds):
+        """Asks that for so long the other side neither sends a value nor closes."""
+        before = self.link.gettimeout()
+        self.link.settimeout(seconds)
+        try:
+            came = self.value()
+        except TimeoutError:
+            return
+        except ConnectionError as error:
+            came = error
+        finally:
+            self.link.settimeout(before)
+        raise AssertionError(f"nothing was to come, and there came {came!r}")
 
     def is_closed(self, seconds):
         """Whether the other side closes within so long; what it sends before is passed over."""
@@ -112,17 +100,6 @@ def log_in(stream, key, user="", password=""):
     assert pong[4] == digest(said[2], pong[3], helo[1]["nonce"], key), "a PONG that is not by the key"
 
 
-def let_in(stream, key):
-    """A server's part of the handshake: whether the relay's PING is by the key."""
-    nonce = os.urandom(16)
-    stream.send(["HELO", {"nonce": nonce, "auth": "", "keepalive": True}])
-    said = stream.value()
-    is_good = said[:1] == ["PING"] and said[3] == digest(said[2], said[1], nonce, key)
-    reason = "" if is_good else "shared_key mismatch"
-    stream.send(["PONG", is_good, reason, "next", digest(said[2], "next", nonce, key)])
-    return is_good
-
-
 class Source:
     """A source's connection to a relay, which it logs in to where there is a key."""
 
@@ -155,6 +132,10 @@ class Source:
         self.send(tag, entries, mode, chunk)
         told = self.told()
         assert told == chunk, f"told {told!r} of {chunk!r}"
+
+    def hears_nothing(self, seconds):
+        """Asks that for so long the relay neither tells anything nor closes."""
+        self.stream.hears_nothing(seconds)
 
     def is_closed(self, seconds=30):
         """Whether the relay closes the connection within so long."""

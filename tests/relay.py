@@ -5,6 +5,7 @@ import json
 import os
 import pathlib
 import re
+import signal
 import socket
 import subprocess
 import time
@@ -17,8 +18,6 @@ BUILT = TOP / "crates" / "forward_relay" / "out" / "forward_relay"
 DEADLINE = 60  # seconds within which what is to happen happens, however busy the machine is
 TICK = os.sysconf("SC_CLK_TCK")
 HELD = []  # sockets that keep ports for this process
-# How many threads read the sources of each relay, if not one.
-READERS = {"readers": int(os.environ["READERS"])} if "READERS" in os.environ else {}
 STAMP = re.compile(r"^\d{4}-\d\d-\d\dT\d\d:\d\d:\d\d\.\d{3}Z ", re.MULTILINE)
 
 
@@ -72,8 +71,9 @@ def free_ports(count):
 
 
 def table(head, keys):
-    """A table of TOML. JSON spells its texts, numbers and truths alike."""
-    return f"{head}\n" + "".join(f"{key} = {json.dumps(value)}\n" for key, value in keys.items())
+    """A table of TOML, without keys that are None. JSON spells its texts, numbers and truths alike."""
+    lines = (f"{key} = {json.dumps(value)}\n" for key, value in keys.items() if value is not None)
+    return f"{head}\n" + "".join(lines)
 
 
 def settings(relay, outputs):
@@ -94,52 +94,109 @@ def settings(relay, outputs):
     return "".join(parts)
 
 
-class Relay:
-    """A program that runs, with its journal and the monitor's page."""
+class Child:
+    """A program beside a test: its words, what it says in a file, and the port that it listens at, if it does."""
 
-    def __init__(self, program, folder, outputs, turns=None, under=(), environment=None, **relay):
-        self.folder = pathlib.Path(folder)
-        self.port, self.monitor = free_ports(2)
-        keys = {"listen": f"{HOST}:{self.port}", "monitor": f"{HOST}:{self.monitor}"} | READERS | relay
-        self.path = self.folder / f"relay-{self.port}.toml"
-        self.path.write_text(settings(keys, outputs))
-        self.journal_path = self.folder / f"journal-{self.port}"
-        self.turns = [] if turns is None else [str(turns)]
-        self.words = [*under, program, "run", str(self.path), *self.turns]
-        self.environment = {**os.environ, "FORWARD_RELAY_LOG": "info", **(environment or {})}
-        self.sources = []
+    def __init__(self, words, said, port=None, environment=None):
+        self.words, self.said_path, self.port = [str(word) for word in words], pathlib.Path(said), port
+        self.environment = {**os.environ, **(environment or {})}
 
-    def start(self, errors=None, stdout=subprocess.DEVNULL):
-        """Starts it, and waits until it listens; its journal may go elsewhere than to its file."""
-        with open(self.journal_path, "ab") as journal:
-            streams = {"stdin": subprocess.DEVNULL, "stdout": stdout, "stderr": errors or journal}
-            self.process = subprocess.Popen(self.words, env=self.environment, **streams)
-        if self.turns:
-            return self  # it may end at any moment
-        self.until(lambda: not self.is_up() or is_listened_at(self.monitor), "it does not listen")
-        assert self.is_up(), f"it ended at its start: {self.process.returncode} {self.journal()}"
+    def __enter__(self):
         return self
+
+    def __exit__(self, *_):
+        self.kill()
+
+    def begin(self, **streams):
+        """Starts it; its streams may go elsewhere than to its file."""
+        with open(self.said_path, "ab") as said:
+            streams = {"stdin": subprocess.DEVNULL, "stdout": said, "stderr": said} | streams
+            self.process = subprocess.Popen(self.words, env=self.environment, start_new_session=True, **streams)
+        return self
+
+    def start(self, **streams):
+        """Starts it, and waits until it listens."""
+        self.begin(**streams)
+        self.until(lambda: not self.is_up() or self.is_there(), "it does not listen")
+        assert self.is_up(), f"it ended at its start: {self.process.returncode} {self.said()[-2000:]}"
+        return self
+
+    def is_there(self):
+        """Whether it listens."""
+        return self.port is None or is_listened_at(self.port)
 
     def is_up(self):
         """Whether it has not ended."""
         return self.process.poll() is None
 
     def kill(self):
-        """Ends it at once, and its sources: the status, or the signal as a negative number."""
-        self.process.kill()
-        for source in self.sources:
-            source.close()
+        """Ends it and its children at once: the status, or the signal as a negative number."""
+        if self.is_up():
+            os.killpg(self.process.pid, signal.SIGKILL)
         return self.process.wait()
+
+    def end(self):
+        """Asks it and its children to end: the status."""
+        if self.is_up():
+            os.killpg(self.process.pid, signal.SIGTERM)
+        return self.ended()
 
     def ended(self, seconds=DEADLINE):
         """The status that it ends with by itself."""
         return self.process.wait(seconds)
 
+    def processor(self):
+        """The processor seconds of all its threads, and of its children that have ended."""
+        fields = pathlib.Path(f"/proc/{self.process.pid}/stat").read_text().rpartition(")")[2].split()
+        return sum(map(int, fields[11:15])) / TICK
+
+    def said(self):
+        """What it said."""
+        return self.said_path.read_text(errors="replace")
+
+    def until(self, what, why, seconds=DEADLINE):
+        """As `until`, with the end of what it said where that is late."""
+        return until(what, lambda: f"{why() if callable(why) else why}; it said {self.said()[-2000:]}", seconds)
+
+
+class Relay(Child):
+    """A program that runs, with its journal and the monitor's page."""
+
+    def __init__(self, program, folder, outputs, turns=None, under=(), environment=None, port=None, **relay):
+        listen, self.monitor = free_ports(2)
+        port = port or listen
+        keys = {"listen": f"{HOST}:{port}", "monitor": f"{HOST}:{self.monitor}"} | relay
+        self.path = pathlib.Path(folder) / f"relay-{port}.toml"
+        self.path.write_text(settings(keys, outputs))
+        self.turns = [] if turns is None else [turns]
+        words = [*under, program, "run", self.path, *self.turns]
+        environment = {"FORWARD_RELAY_LOG": "info", **(environment or {})}
+        super().__init__(words, pathlib.Path(folder) / f"journal-{port}", port, environment)
+        self.sources = []
+
+    def start(self, errors=None, stdout=subprocess.DEVNULL):
+        """Starts it, and waits until it listens; its journal may go elsewhere than to its file."""
+        streams = {"stdout": stdout} | ({} if errors is None else {"stderr": errors})
+        if self.turns:
+            return self.begin(**streams)  # it may end at any moment
+        return super().start(**streams)
+
+    def is_there(self):
+        """Whether it listens, which it does for its monitors last."""
+        return is_listened_at(self.monitor)
+
+    def kill(self):
+        """Ends it at once, and its sources."""
+        status = super().kill()
+        for source in self.sources:
+            source.close()
+        return status
+
     # ---- what it says
 
     def journal(self):
         """What it said, without the times."""
-        return STAMP.sub("", self.journal_path.read_text(errors="replace"))
+        return STAMP.sub("", self.said())
 
     def lines(self, front):
         """How many lines begin so, those that were left out too."""
@@ -149,10 +206,6 @@ class Relay:
                 is_left_out = re.search(r"[:,] (\d+) left out$", line)
                 count += int(is_left_out[1]) if is_left_out else 1
         return count
-
-    def until(self, what, said, seconds=DEADLINE, step=0.02):
-        """As `until`, with the end of the journal where it is late."""
-        return until(what, lambda: f"{said}; the journal ends {self.journal()[-2000:]}", seconds, step)
 
     def await_line(self, pattern, seconds=DEADLINE):
         """The first line of the journal that a pattern is found in, once there is one."""
@@ -211,11 +264,6 @@ class Relay:
     def files(self):
         """How many files it has open."""
         return len(os.listdir(f"/proc/{self.process.pid}/fd"))
-
-    def processor(self):
-        """The processor seconds of all its threads."""
-        fields = pathlib.Path(f"/proc/{self.process.pid}/stat").read_text().rpartition(")")[2].split()
-        return (int(fields[11]) + int(fields[12])) / TICK
 
 
 def is_listened_at(port):

@@ -15,7 +15,7 @@ import sys
 import threading
 import time
 
-sys.path.insert(0, str(pathlib.Path(__file__).parents[1]))
+sys.path[:0] = [str(pathlib.Path(__file__).parents[2] / part) for part in ("tests", "tools")]
 from forward import Source, event_time  # noqa: E402
 
 THREADS = 3

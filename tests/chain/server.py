@@ -12,7 +12,7 @@ import threading
 
 import msgpack
 
-sys.path.insert(0, str(pathlib.Path(__file__).parents[1]))
+sys.path[:0] = [str(pathlib.Path(__file__).parents[2] / part) for part in ("tests", "tools")]
 from next_hop import NextHop  # noqa: E402
 
 

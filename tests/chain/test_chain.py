@@ -14,17 +14,16 @@ not a loss of power.
 """
 
 import importlib.util
-import os
 import pathlib
 import random
-import subprocess
 import sys
 import time
 
 import pytest
 
-from relay import Relay, free_ports, is_listened_at, until
+from relay import Child, Relay, free_ports
 
+pytestmark = pytest.mark.parametrize("readers", [1, 4])
 HERE = pathlib.Path(__file__).parent
 SEED = 7
 LAST = 120  # seconds that the clients have to end, and the last lines to come
@@ -33,65 +32,25 @@ USER = {"near": "a password of the near one"}
 WAITS = {"flush_interval": 20, "retry_wait": 100, "retry_max": 1000}
 
 
-class Part:
-    """A part of the chain, which is killed and started again."""
-
-    def __init__(self, name, words, port, folder):
-        self.name, self.words, self.port, self.kills = name, words, port, 0
-        self.errors = folder / f"{name}.errors"
-        self.start()
-
-    def start(self):
-        """Starts it, and waits until it listens."""
-        env = os.environ | {"FORWARD_RELAY_LOG": "info"}
-        with open(self.errors, "ab") as errors:
-            self.process = subprocess.Popen(self.words, stdout=subprocess.DEVNULL, stderr=errors, env=env)
-        until(lambda: is_listened_at(self.port) or self.process.poll() is not None, f"{self.name} does not listen")
-
-    def end(self):
-        """Kills it, which has not ended by itself."""
-        status = self.process.poll()
-        self.process.kill()
-        self.process.wait()
-        assert status is None, f"{self.name} ended with {status}: {self.errors.read_text()[-2000:]}"
-
-    def kill(self, pause):
-        """Kills it, and starts it again behind a pause."""
-        self.end()
-        time.sleep(pause)
-        self.start()
-        self.kills += 1
-
-
 @pytest.fixture
-def chain(program, tmp_path):
+def chain(program, tmp_path, readers):
     """The three parts, which end with the test."""
     near, far, server = free_ports(3)
-    first = {
-        "workers": 2,
-        "window": 2,
-        "ack_wait": 5000,
-        "hostname": "near",
-        "username": "near",
-        "password": USER["near"],
-    }
-    relays = [
-        Relay(
-            program, tmp_path, [{"servers": [server], "ack_wait": 2000, **WAITS}], hostname="far", users=USER, **SECRET
-        ),
-        Relay(program, tmp_path, [{"servers": [far], **first, **SECRET, **WAITS}]),
-    ]
+    to_server = {"servers": [server], "ack_wait": 2000, **WAITS}
+    to_far = {"servers": [far], "workers": 2, "window": 2, "ack_wait": 5000, **SECRET, **WAITS}
+    to_far |= {"hostname": "near", "username": "near", "password": USER["near"]}
+    words = [sys.executable, HERE / "server.py", server, tmp_path / "server.lines"]
+    keys = {"hostname": "far", "users": USER, **SECRET}
     parts = [
-        Part("server", [sys.executable, HERE / "server.py", str(server), tmp_path / "server.lines"], server, tmp_path)
+        Child(words, tmp_path / "server.errors", server),
+        Relay(program, tmp_path, [to_server], port=far, readers=readers, **keys),
+        Relay(program, tmp_path, [to_far], port=near, readers=readers),
     ]
-    for name, port, relay in zip(("far", "near"), (far, near), relays):
-        text = relay.path.read_text().replace(f"127.0.0.1:{relay.port}", f"127.0.0.1:{port}")
-        relay.path.write_text(text)
-        parts.append(Part(name, relay.words, port, tmp_path))
+    for part in parts:
+        part.start()
     yield parts
     for part in parts:
-        part.process.kill()
-        part.process.wait()
+        part.kill()
 
 
 @pytest.fixture
@@ -104,12 +63,10 @@ def clients(build_go, chain, tmp_path):
         words["silent"] = [*own, "silent", port, tmp_path]
     if program := build_go(HERE / "client.go"):
         words["go"] = [program, port, tmp_path]
-    with open(tmp_path / "clients.errors", "wb") as errors:
-        started = {name: subprocess.Popen(words[name], stderr=errors) for name in words}
+    started = {name: Child(words[name], tmp_path / "clients.errors").begin() for name in words}
     yield started
     for client in started.values():
         client.kill()
-        client.wait()
 
 
 def lines_in(path):
@@ -119,19 +76,24 @@ def lines_in(path):
 
 
 def disturb(parts, draw, seconds):
-    """Kills a part now and then, for so long, and each at least once."""
-    end = time.monotonic() + seconds
-    while time.monotonic() < end or not all(part.kills for part in parts):
+    """Kills a part now and then, and starts it again behind a pause, for so long, and each at least once."""
+    end, killed = time.monotonic() + seconds, set()
+    while time.monotonic() < end or len(killed) < len(parts):
         time.sleep(draw.uniform(1, 6))
-        draw.choice(parts).kill(draw.uniform(0, 2))
+        part = draw.choice(parts)
+        assert part.is_up(), f"it ended by itself: {part.words} {part.said()[-2000:]}"
+        part.kill()
+        killed.add(part)
+        time.sleep(draw.uniform(0, 2))
+        part.start()
 
 
 def finish(clients, folder):
     """The clients end once what they have under way is acknowledged, and no line comes for five seconds."""
     for client in clients.values():
-        client.terminate()
+        client.process.terminate()
     for name, client in clients.items():
-        assert client.wait(LAST) == 0, f"{name}: {(folder / 'clients.errors').read_text()[-2000:]}"
+        assert client.ended(LAST) == 0, f"{name}: {client.said()[-2000:]}"
     before, path = -1, folder / "server.lines"
     while before != path.stat().st_size:
         before = path.stat().st_size

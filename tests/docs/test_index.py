@@ -36,7 +36,7 @@ def edits():
 def test_index():
     """The index is what the tool writes."""
     done = subprocess.run(
-        [sys.executable, "tools/index.py", "--check"], cwd=TOP, capture_output=True, text=True, timeout=60
+        [sys.executable, "dev/index.py", "--check"], cwd=TOP, capture_output=True, text=True, timeout=60
     )
     assert done.returncode == 0, done.stderr
 

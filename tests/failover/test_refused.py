@@ -37,7 +37,8 @@ def test_others_go_on(relay, next_hop, keys, count):
     ask_until_told(one)
     line = one.await_line(f"chunk refused: output 0 tag {HEX}")
     assert re.search(rf" bytes 60011 losses \d+ server 127.0.0.1:{hop.port} Closed$", line), line
-    assert not any(source.is_closed(0.1) for source in sources)
+    for source in sources:
+        source.hears_nothing(0.1)
     one.await_page(lambda it: it.held == count)
     tries = [frame for frame in hop.frames if frame.tag == "large.0"]
     assert len(tries) >= 3, "it is tried again"

@@ -10,6 +10,7 @@ from forward import request
 from next_hop import hold
 from relay import steady
 
+pytestmark = pytest.mark.parametrize("readers", [1, 4])
 COUNT = 12
 SIZE = 600
 

@@ -8,6 +8,7 @@ from forward import packed
 from next_hop import hold
 from relay import DEADLINE
 
+pytestmark = pytest.mark.parametrize("readers", [1, 4])
 FULL = "a"  # the tag that goes to the output that is full
 PLACES = 8
 
@@ -73,7 +74,7 @@ def test_who_waits_leaves_some_places(relay, next_hop):
 
 
 @pytest.mark.quick
-def test_who_asks_gives_its_place_first(relay, next_hop):
+def test_who_asks_gives_its_place_first(relay, next_hop, readers):
     """Of sources that wait the one that asked for an acknowledgement is closed: it sends again, and loses nothing."""
     one, hop = two_outputs(relay, next_hop, metrics=True, readers=1)
     crowd = [begin_to_wait(one) for _ in range(PLACES - 1)]

@@ -6,6 +6,7 @@ from next_hop import hold
 from relay import steady
 from traffic import Traffic
 
+pytestmark = pytest.mark.parametrize("readers", [1, 4])
 KEYS = {"chunk_limit": 200, "total_limit": 20_000}
 
 

@@ -7,9 +7,9 @@ import socket
 
 import pytest
 
+from documents import recipe
 from forward import HOST, Source
-from recipes import Tool, recipe
-from relay import free_ports, until
+from relay import Child, free_ports, until
 from traffic import Traffic
 
 pytestmark = pytest.mark.quick
@@ -18,7 +18,7 @@ PROGRAM = "/usr/sbin/haproxy"
 FOR_ROOT = "    chroot /var/lib/haproxy\n    user haproxy\n    group haproxy\n"
 
 
-class Balancer(Tool):
+class Balancer(Child):
     """haproxy by the recipe, before two relays."""
 
     def __init__(self, folder, relays):
@@ -62,7 +62,7 @@ def balancer(needed, tmp_path):
 
     def start(*relays):
         started.append(Balancer(tmp_path, relays))
-        return started[-1]
+        return started[-1].start()
 
     yield start
     for one in started:

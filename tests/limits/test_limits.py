@@ -59,8 +59,7 @@ def test_more_sources_than_files(relay, next_hop):
 @pytest.mark.parametrize(("workers", "readers"), [(1, 1), (7, 1), (1, 3)])
 def test_files_that_are_kept_apart(relay, next_hop, workers, readers):
     """16 files of its own, 16 for monitors, 5 for each worker and 2 for each reader beside the first: sources have the others."""
-    keys = {"under": few(FILES), "connections": 1024, "readers": readers}
-    one = relay([{"servers": [next_hop().port], "workers": workers}], **keys)
+    one = relay([{"servers": [next_hop().port], "workers": workers}], under=few(FILES), connections=1024)
     sources = FILES - 16 - 16 - 5 * workers - 2 * (readers - 1)
     assert one.await_line("few files: ") == f"few files: {FILES} open at most, {sources} sources"
 
@@ -125,8 +124,7 @@ def test_before_a_ping(relay, next_hop):
     with connect(one.port) as stream:
         said = msgpack.packb(ping(stream.value(), KEY, salt=bytes(3_700)))
         stream.link.sendall(said[:2_000])
-        assert not stream.is_closed(0.2)
-        stream.link.settimeout(30)
+        stream.hears_nothing(0.2)
         stream.link.sendall(said[2_000:])
         assert stream.value()[:2] == ["PONG", True]
     with connect(one.port) as stream:
@@ -142,7 +140,7 @@ def test_who_does_not_log_in(relay, next_hop):
     silent = [keyed.source(key=KEY), open_to_all.source()]
     with connect(keyed.port) as late:
         late.value()
-        assert not late.is_closed(20)
+        late.hears_nothing(20)
         assert late.is_closed(30), "it has not logged in, and stays"
     keyed.await_line("source closed: .* NoLogin")
     for source in silent:

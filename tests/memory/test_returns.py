@@ -13,6 +13,7 @@ import pytest
 from forward import HOST, request
 from relay import Relay, free_ports, steady, until
 
+pytestmark = pytest.mark.parametrize("readers", [1, 4])
 TAGS = ["a", "b", "c"]  # an output each
 DRAINS = 10  # seconds
 MORE = 3  # seconds that sources send on once memory was refused
@@ -39,7 +40,7 @@ def limited(megabytes):
 
 
 @pytest.fixture
-def site(program, tmp_path):
+def site(program, tmp_path, readers):
     """Starts a relay in so many megabytes, whose next hop is to listen at a port. It ends with the test."""
     started = []
 
@@ -47,7 +48,7 @@ def site(program, tmp_path):
         outputs = [{"match": tag, "servers": [server], "workers": 2, "window": 8, **WAITS} for tag in TAGS]
         for output in outputs:
             output["total_limit"] = 1_000_000_000
-        started.append(Relay(program, tmp_path, outputs, under=limited(megabytes)))
+        started.append(Relay(program, tmp_path, outputs, under=limited(megabytes), readers=readers))
         return begun(started[-1])
 
     yield start
@@ -65,7 +66,7 @@ def begun(one):
             return one
         except AssertionError:
             assert "start: thread" in one.journal(), one.journal()
-            one.journal_path.write_text("")
+            one.said_path.write_text("")
     raise AssertionError("no thread at each of twenty starts")
 
 

@@ -9,6 +9,7 @@ from relay import Relay, steady, until
 from shim import Board, environment, runs
 from traffic import Traffic
 
+pytestmark = pytest.mark.parametrize("readers", [1, 4])
 KEY, USER, PASSWORD = "a secret of both sides", "alice", "a password of hers"
 START = re.compile(r"memory|listen: [0-9.:]+|start: (poll|seed|thread)")
 EMPTY = b"output 0 accepted 0 settled 0 held 0 bytes 0 chunks 0\n"
@@ -18,12 +19,12 @@ KEYS = pytest.mark.parametrize("is_keyed", [False, True], ids=["no key", "a key"
 
 
 @pytest.fixture
-def site(program, tmp_path, is_keyed):
+def site(program, tmp_path, is_keyed, readers):
     """Traffic to one server, a relay that is not started yet, and what its sources log in with."""
     traffic = Traffic(1, KEY if is_keyed else None)
     waits = {"flush_interval": 10, "retry_wait": 20, "retry_max": 100, "ack_wait": 20_000, "chunk_limit": 2_000}
     output = {"servers": [traffic.servers[0].port], "workers": WORKERS, "window": 3 if is_keyed else 1, **waits}
-    keys = {"shared_key": KEY, "users": {USER: PASSWORD}} if is_keyed else {}
+    keys = {"readers": readers} | ({"shared_key": KEY, "users": {USER: PASSWORD}} if is_keyed else {})
     one = Relay(program, tmp_path, [output | ({"shared_key": KEY} if is_keyed else {})], **keys)
     yield one, traffic, (KEY, USER, PASSWORD) if is_keyed else None
     traffic.close()
@@ -53,7 +54,7 @@ def start(one, board, shim, one_in):
             return one.start()
         except AssertionError:
             assert one.ended() == 4 and START.fullmatch(one.journal().splitlines()[-1]), one.journal()
-            one.journal_path.write_text("")
+            one.said_path.write_text("")
     raise AssertionError("it ends at each of fifty starts")
 
 

@@ -13,8 +13,7 @@ import pytest
 from exposition import read_metrics
 from forward import HOST, connect
 from next_hop import acknowledge, hold
-from recipes import Tool
-from relay import TOP, free_ports, until
+from relay import TOP, Child, free_ports
 
 pytestmark = pytest.mark.quick
 FRONT = "forward_relay_"
@@ -306,8 +305,7 @@ def test_prometheus(relay, next_hop, needed, tmp_path):
     path = tmp_path / "prometheus.yml"
     path.write_text(json.dumps({"scrape_configs": [scrape]}))  # JSON is YAML
     words = ["prometheus", f"--config.file={path}", f"--storage.tsdb.path={tmp_path}/data"]
-    tool = Tool([*words, f"--web.listen-address={HOST}:{port}"], tmp_path / "said", port)
-    try:
+    with Child([*words, f"--web.listen-address={HOST}:{port}"], tmp_path / "said", port).start() as tool:
 
         def result(query):
             url = f"http://{HOST}:{port}/api/v1/query?{urllib.parse.urlencode({'query': query})}"
@@ -317,9 +315,7 @@ def test_prometheus(relay, next_hop, needed, tmp_path):
             except urllib.error.HTTPError:  # it has begun, and does not answer yet
                 return []
 
-        found = until(lambda: result("forward_relay_tag_held_entries"), tool.said)
+        found = tool.until(lambda: result("forward_relay_tag_held_entries"), "it has no values")
         assert found[0]["metric"]["tag"] == 'a."\\\n' and found[0]["value"][1] == "1"
         assert result("forward_relay_accepted_entries_total")[0]["value"][1] == "1"
         assert result("forward_relay_sources_open")[0]["value"][1] == "1"
-    finally:
-        tool.kill()

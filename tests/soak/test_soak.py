@@ -15,35 +15,30 @@ between, and for no leak.
 """
 
 import os
-import pathlib
+import sys
 import threading
 import time
 
 import pytest
 
-from relay import free_ports, until
+from relay import TOP, Child, free_ports, until
 from soak import load as loads
-from stress.waits import Child
 
-NEXT_HOP = pathlib.Path(__file__).parents[1] / "next_hop.py"
 MINUTES = int(os.environ.get("SOAK_MINUTES", "60"))
 WAITS = {"flush_interval": 50, "retry_wait": 100, "retry_max": 500}
 
 
-class Server:
+class Server(Child):
     """A next hop, which is ended and started again."""
 
-    def __init__(self, port):
-        self.port = port
-        self.start("quiet")
+    def __init__(self, port, said):
+        super().__init__([], said, port)
+        self.start_as("quiet")
 
-    def start(self, way):
+    def start_as(self, way):
         """Starts it: a silent one acknowledges nothing."""
-        self.child = Child(NEXT_HOP, self.port, way)
-
-    def end(self):
-        """Kills it."""
-        self.child.__exit__()
+        self.words = [sys.executable, TOP / "tools" / "next_hop.py", str(self.port), way]
+        self.start()
 
 
 class Weather(threading.Thread):
@@ -65,10 +60,10 @@ class Weather(threading.Thread):
 
     def changes(self):
         """What happens in a round, each behind its share of it."""
-        yield 0.2, self.main.end
-        yield 0.1, lambda: self.main.start("quiet")
-        yield 0.1, lambda: (self.second.end(), self.second.start("silent"))
-        yield 0.3, lambda: (self.second.end(), self.second.start("quiet"))
+        yield 0.2, self.main.kill
+        yield 0.1, lambda: self.main.start_as("quiet")
+        yield 0.1, lambda: (self.second.kill(), self.second.start_as("silent"))
+        yield 0.3, lambda: (self.second.kill(), self.second.start_as("quiet"))
         yield 0.3, lambda: None
 
     def clear(self):
@@ -76,8 +71,8 @@ class Weather(threading.Thread):
         self.stopped.set()
         self.join()
         for server in (self.main, self.second):
-            server.end()
-            server.start("quiet")
+            server.kill()
+            server.start_as("quiet")
 
 
 def counts(one):
@@ -113,9 +108,9 @@ def rises(looked, slack):
 
 
 @pytest.mark.hour
-def test_nothing_rises(relay):
+def test_nothing_rises(relay, tmp_path):
     """Neither memory nor open files rise, and nothing is left behind the load."""
-    main, second = map(Server, free_ports(2))
+    main, second = (Server(port, tmp_path / f"server-{port}") for port in free_ports(2))
     outputs = [
         {"match": "soak.**", "workers": 2, "window": 2, "ack_wait": 5000, "chunk_limit": 1_000_000},
         {"match": "fill.**", "ack_wait": 3000, "chunk_limit": 500_000, "total_limit": 3_000_000},
@@ -136,8 +131,8 @@ def test_nothing_rises(relay):
     finally:
         weather.stopped.set()
         load.stopped.set()
-        main.end()
-        second.end()
+        main.kill()
+        second.kill()
     assert not load.wrong, load.wrong
     assert not rises(memory, 4_000_000), f"resident memory: {rises(memory, 4_000_000)}"
     assert not rises(files, 2), f"open files: {rises(files, 2)}"

@@ -12,6 +12,7 @@ from relay import until
 from shim import FAILURES, Board, environment
 from traffic import Traffic
 
+pytestmark = pytest.mark.parametrize("readers", [1, 4])
 SEED = 1
 
 

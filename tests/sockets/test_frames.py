@@ -9,6 +9,7 @@ import pytest
 
 from forward import HOST, packed, request
 
+pytestmark = pytest.mark.parametrize("readers", [1, 4])
 SIZE = 20_000  # bytes of a request's entry: so long that the link is handed it where it lies
 COUNT = 3
 

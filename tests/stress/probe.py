@@ -17,7 +17,7 @@ import socket
 import sys
 import time
 
-sys.path.insert(0, str(pathlib.Path(__file__).parents[1]))
+sys.path[:0] = [str(pathlib.Path(__file__).parents[2] / part) for part in ("tests", "tools")]
 from forward import HOST, Source  # noqa: E402
 
 REST = 0.002  # seconds between two questions

@@ -8,9 +8,9 @@ import pytest
 from forward import connect
 from next_hop import hold
 from relay import until
-from stress.waits import ENTRY, Owed, filled, once_more, request, requests, within
+from stress.waits import ENTRY, Owed, filled, request, requests, within
 
-pytestmark = pytest.mark.minutes
+pytestmark = [pytest.mark.minutes, pytest.mark.parametrize("readers", [1, 4])]
 MANY, WARM, SOURCES = 1_000_000, 10_000, 8
 HELD = {
     "chunk_limit": 8_000_000,
@@ -55,24 +55,22 @@ def round_of(one, hop, count, before):
     return memory, output.bytes
 
 
-@once_more
 def test_many_held(relay, next_hop):
-    """A held request of one entry takes at most 350 bytes beside it; three rounds of a million take what the first took."""
+    """A held request of one entry is to take at most 350 bytes beside it, and three rounds of a million what the first took."""
     hop = next_hop(answer=hold)
     one = relay([HELD | {"servers": [hop.port]}])
     round_of(one, hop, WARM, 0)
     before = least_memory(one, 2)
     memory, size = round_of(one, hop, MANY, WARM)
-    within("a request, bytes", (memory - before - size) / MANY, 350)
+    within("a request, bytes", (memory - before - size) / MANY, 350, 700)
     first = least_memory(one, 3)
     for number in (1, 2):
         round_of(one, hop, MANY, WARM + number * MANY)
-    within("behind three rounds, times what was behind one", least_memory(one, 3) / first, 1.2)
+    within("behind three rounds, times what was behind one", least_memory(one, 3) / first, 1.2, 2)
 
 
-@once_more
 def test_long_tags(relay, next_hop):
-    """100,000 tags of 1,024 bytes take at most 4.5 times their bytes: each lies in its request, its chunk and the tags' index."""
+    """100,000 tags of 1,024 bytes are to take at most 4.5 times their bytes: in requests, chunks and the tags' index."""
     outputs = [{"match": "last"}, {"match": "**", "flush_interval": 86_400_000}]
     one = relay([output | {"servers": [next_hop().port]} for output in outputs])
     source = one.source(timeout=120)
@@ -83,7 +81,7 @@ def test_long_tags(relay, next_hop):
         source.stream.link.sendall(b"".join(request(name * (TAG // 8), name) for name in names))
     source.ask("last")
     time.sleep(0.5)
-    within("the tags take, times their bytes", (one.memory() - before) / (TAGS * (TAG + ENTRY)), 4.5)
+    within("the tags take, times their bytes", (one.memory() - before) / (TAGS * (TAG + ENTRY)), 4.5, 9)
 
 
 def fill_with(one, data, count):

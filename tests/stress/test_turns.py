@@ -1,22 +1,22 @@
-"""One source must not occupy the loop: what it sends, and what it is owed, holds others up for at most 100 ms."""
+"""One source must not occupy the loop: what it sends, and what it is owed, is to hold others up for at most 100 ms."""
 
 import struct
+import sys
 import time
 
 import pytest
 
 from forward import Source, connect
 from next_hop import hold
-from relay import free_ports, until
-from stress.waits import HERE, RECORD, TIME, Child, Owed, Probe, once_more, text, within
+from relay import TOP, Child, free_ports, until
+from stress.waits import RECORD, TIME, Owed, Probe, text, within
 
-pytestmark = pytest.mark.minutes
+pytestmark = [pytest.mark.minutes, pytest.mark.parametrize("readers", [1, 4])]
 KEY = "a key of both sides"
 LONG = b"\xdd\x00\xff\xff\xf0"  # an array of 16,777,200 values
 ZEROS = 16_000_000
 DRIP = 3  # seconds of single bytes
 MANY = 1_000_000
-LEAST = 100  # ms that others may wait
 HELD = {
     "match": "held",
     "chunk_limit": 8_000_000,
@@ -28,10 +28,11 @@ HELD = {
 
 
 @pytest.fixture
-def prompt():
+def prompt(tmp_path):
     """A server that acknowledges at once, as a process of its own, and the output that has it."""
     port = free_ports(1)[0]
-    with Child(HERE.parent / "next_hop.py", port, "quiet") as child:
+    words = [sys.executable, TOP / "tools" / "next_hop.py", port, "quiet"]
+    with Child(words, tmp_path / "prompt", port).start() as child:
         yield child, {"match": "probe", "servers": [port]}
 
 
@@ -49,7 +50,6 @@ def attack(port):
     return False
 
 
-@once_more
 def test_long_array(relay, prompt):
     """An array of 16 MB, and single bytes behind it."""
     server, output = prompt
@@ -58,10 +58,9 @@ def test_long_array(relay, prompt):
         time.sleep(0.5)
         probe.since()
         assert not attack(one.port), "the source was closed, though its array may be as long"
-        probe.waited("others wait", LEAST)
+        probe.waited("others wait")
 
 
-@once_more
 def test_long_array_before_a_ping(relay, prompt):
     """The same where a key is set: it is closed, since no more than 4,096 bytes may wait before a PING."""
     server, output = prompt
@@ -72,9 +71,9 @@ def test_long_array_before_a_ping(relay, prompt):
         start = time.monotonic()
         assert attack(one.port), "the source was not closed"
         took = time.monotonic() - start
-        probe.waited("others wait", LEAST)
+        probe.waited("others wait")
     one.await_line("source closed: .* NoLogin")
-    within("closed within, s", took, 2)
+    within("closed within, s", took, 2, 30)
 
 
 def hold_all(one, hop, owed, before):
@@ -85,7 +84,6 @@ def hold_all(one, hop, owed, before):
     time.sleep(0.5)
 
 
-@once_more
 def test_many_settled(relay, next_hop, prompt):
     """A million requests that are settled at once, and a source that closes while it is owed another million.
 
@@ -101,8 +99,8 @@ def test_many_settled(relay, next_hop, prompt):
         hop.release()
         first.join(60)
         assert first.is_told, "the source is not told of each request once"
-        asks.waited("others wait, as all are settled", LEAST)
-        looks.waited("the page, as all are settled", LEAST)
+        asks.waited("others wait, as all are settled")
+        looks.waited("the page, as all are settled")
         first.close()
         hop.answer = hold
         second = Owed(one.port, MANY)
@@ -110,13 +108,13 @@ def test_many_settled(relay, next_hop, prompt):
         asks.since(), looks.since()
         second.close()
         time.sleep(2)
-        asks.waited("others wait, as the source closes", LEAST)
-        looks.waited("the page, as the source closes", LEAST)
+        asks.waited("others wait, as the source closes")
+        looks.waited("the page, as the source closes")
         hop.release()
         one.await_settled(2 * MANY)
         time.sleep(1)
-        asks.waited("others wait, as its requests are settled", LEAST)
-        looks.waited("the page, as its requests are settled", LEAST)
+        asks.waited("others wait, as its requests are settled")
+        looks.waited("the page, as its requests are settled")
 
 
 def cost(relay, next_hop, count):
@@ -133,8 +131,7 @@ def cost(relay, next_hop, count):
         return one.processor() - before
 
 
-@once_more
 def test_many_chunks(relay, next_hop):
-    """A request of 80,000 entries, each in a chunk of its own, costs at most 2.6 times what one of 40,000 costs."""
+    """80,000 entries, each in a chunk of its own, are to cost at most 2.6 times what 40,000 cost; the square would be 4 times."""
     half, whole = cost(relay, next_hop, 40_000), cost(relay, next_hop, 80_000)
-    within(f"twice as many cost, times ({half:.2f} s and {whole:.2f} s)", whole / half, 2.6)
+    within(f"twice as many cost, times ({half:.2f} s and {whole:.2f} s)", whole / half, 2.6, 3.6)

@@ -7,9 +7,9 @@ import ssl
 
 import pytest
 
+from documents import recipe
 from forward import Source
-from recipes import Tool, recipe
-from relay import free_ports, until
+from relay import Child, free_ports, until
 from stunnel.certificates import Authority
 from traffic import Traffic
 
@@ -45,8 +45,8 @@ def tunnel(authority, tmp_path):
         changes = changes | places[which] | files | ({} if os.geteuid() == 0 else {USER: ""})
         path = tmp_path / f"{which}-{port}.conf"
         path.write_text(recipe(f"stunnel_{which}.conf", changes).replace("/etc/stunnel/", f"{tmp_path}/"))
-        started.append(Tool([PROGRAM, path], tmp_path / f"said-{port}", port))
-        return started[-1]
+        started.append(Child([PROGRAM, path], tmp_path / f"said-{port}", port))
+        return started[-1].start()
 
     yield start
     for one in started:

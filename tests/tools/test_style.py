@@ -13,7 +13,7 @@ pytestmark = pytest.mark.quick
 def sources(end):
     """The files of the repository that end so, outside crates."""
     return sorted(
-        str(path) for part in ("tests", "tools", "bench", "packaging") for path in (TOP / part).rglob(f"*{end}")
+        str(path) for part in ("tests", "tools", "dev", "bench", "packaging") for path in (TOP / part).rglob(f"*{end}")
     )
 
 

@@ -1,5 +1,5 @@
-//! Calls of fwd_handshake, a line each, and their answers. tools/handshakes.py says what the words
-//! of a line are, and has the cases.
+//! Calls of fwd_handshake, a line each, and their answers. tests/tables/handshakes.py says what the
+//! words of a line are, and has the cases.
 
 use crate::tables::parties::{client, nonces, server, value};
 use crate::tables::words::{bytes_of_word, word_of_bytes, words_of_line};

@@ -1,5 +1,5 @@
-//! Calls of fwd_failover, a line each, and the answers to those that have one. tools/servers.py has
-//! the cases.
+//! Calls of fwd_failover, a line each, and the answers to those that have one.
+//! tests/tables/servers.py has the cases.
 //!
 //!     servers KINDS WAIT MAX    from here on these servers, `p` a primary and `s` a standby
 //!     failed SERVER MOMENT      a loss

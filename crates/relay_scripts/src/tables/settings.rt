@@ -1,5 +1,5 @@
 //! Texts of settings, a line `---` or `===` behind each, and what is told of them: `good`, or the
-//! first fault; behind `===` what each key is set to. tools/settings.py has the cases.
+//! first fault; behind `===` what each key is set to. tests/tables/settings.py has the cases.
 
 use crate::tables::keys::print_keys;
 use anyhow::Result;

@@ -2,7 +2,7 @@
 //! the shortest spelling of its head; or `short`; or the fault.
 //!
 //! A line is a front in hex, and where more follow, a unit and how many times it stands behind the
-//! front. tools/vectors.py has the cases.
+//! front. tests/tables/vectors.py has the cases.
 
 use crate::tables::heads::{fault_word, head_words, shortest};
 use crate::tables::members::is_read;

@@ -1,13 +1,15 @@
 #!/usr/bin/python3
 """A next hop: what it does with the chunks that it gets is said by a function, as those below.
 
-    /usr/bin/python3 tests/next_hop.py PORT [quiet|silent]
+    /usr/bin/python3 tools/next_hop.py PORT [quiet|silent]
 
 run so, it shows each entry on a line (its tag, its time, its record), and acknowledges each chunk. A quiet one
 shows nothing, and a silent one does not acknowledge either. It needs Debian's python3-msgpack.
 """
 
 import contextlib
+import hashlib
+import os
 import socket
 import sys
 import threading
@@ -16,8 +18,7 @@ from typing import NamedTuple
 
 import msgpack
 
-from forward import HOST, Stream, let_in
-
+HOST = "127.0.0.1"
 OTHER = "A" * 22 + "=="  # a name that no chunk of a relay with a run_id of its own has
 
 
@@ -79,6 +80,46 @@ def refuse_above(size):
     return answer
 
 
+class Values:
+    """The values that go over a connection."""
+
+    def __init__(self, link, timeout=30):
+        self.link, self.values = link, msgpack.Unpacker(strict_map_key=False, max_buffer_size=0)
+        link.setsockopt(socket.IPPROTO_TCP, socket.TCP_NODELAY, 1)
+        link.settimeout(timeout)
+
+    def send(self, value):
+        """Sends a value."""
+        self.link.sendall(msgpack.packb(value))
+
+    def value(self):
+        """The next value; ConnectionError where the other side closed."""
+        while True:
+            for value in self.values:
+                return value
+            piece = self.link.recv(1 << 18)
+            if not piece:
+                raise ConnectionError("closed by the other side")
+            self.values.feed(piece)
+
+
+def digest(*parts):
+    """A digest of the handshake, over texts and bytes."""
+    joined = b"".join(part.encode() if isinstance(part, str) else part for part in parts)
+    return hashlib.sha512(joined).hexdigest()
+
+
+def let_in(stream, key):
+    """A server's part of the handshake: whether the relay's PING is by the key."""
+    nonce = os.urandom(16)
+    stream.send(["HELO", {"nonce": nonce, "auth": "", "keepalive": True}])
+    said = stream.value()
+    is_good = said[:1] == ["PING"] and said[3] == digest(said[2], said[1], nonce, key)
+    reason = "" if is_good else "shared_key mismatch"
+    stream.send(["PONG", is_good, reason, "next", digest(said[2], "next", nonce, key)])
+    return is_good
+
+
 class NextHop:
     """A server at a port, which may be ended and started again there."""
 
@@ -121,7 +162,7 @@ class NextHop:
         with self.changed:
             self.links.add(link)
         try:
-            stream = Stream(link, timeout=None)
+            stream = Values(link, timeout=None)
             if self.key is not None and not let_in(stream, self.key):
                 self.wrong.append("a PING that is not by the key")
                 return

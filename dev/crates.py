@@ -1,8 +1,8 @@
 #!/usr/bin/env python3
 """Writes into CONTRIBUTING.md what crates.txt says: the longest chain, and what each crate calls.
 
-    python3 tools/crates.py
-    python3 tools/crates.py --check
+    python3 dev/crates.py
+    python3 dev/crates.py --check
 
 The second writes nothing, and ends with 1 where the document is not what the first would write.
 
@@ -69,7 +69,7 @@ def main():
     if not options.check:
         DOCUMENT.write_text(new)
     elif old != new:
-        sys.exit(f"{DOCUMENT.name} is another than by crates.txt. Write it anew by: python3 tools/crates.py")
+        sys.exit(f"{DOCUMENT.name} is another than by crates.txt. Write it anew by: python3 dev/crates.py")
 
 
 if __name__ == "__main__":
