@@ -150,7 +150,10 @@ def test_what_waits_is_counted(relay, next_hop):
 
 @pytest.mark.quick
 def test_what_is_open_is_sent(relay, next_hop):
-    """An output that is full of open chunks sends them though `flush_interval` is not over: eight tags, one server."""
+    """An output that is full of open chunks sends them though `flush_interval` is not over: eight tags, one server.
+
+    What is open at the end stays so, since nobody waits any more: it has room for seven of these requests.
+    """
     interval = 10 * DEADLINE * 1_000
     output = {"servers": [next_hop().port], "full": "wait", "total_limit": 80_000, "flush_interval": interval}
     one = relay([output])
@@ -158,6 +161,4 @@ def test_what_is_open_is_sent(relay, next_hop):
     for turn in range(6):
         for number, source in enumerate(sources):
             source.send(f"tag{number}", [(turn, {"n": "x" * 10_000})], chunk=f"{turn}")
-    for turn in range(5):
-        for source in sources:
-            assert source.told() == f"{turn}"
+    one.await_page(lambda it: it.accepted == 48 and it.settled >= 41)
