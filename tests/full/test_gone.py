@@ -4,7 +4,6 @@ import pytest
 
 from next_hop import hold
 
-pytestmark = pytest.mark.parametrize("readers", [1, 4])
 GONE = 4_000
 CROWD = 100
 PLACES = 200
