@@ -1,5 +1,5 @@
-/* Calls of the C library that fail, or fall short (LD_PRELOAD): requests for memory, and calls on TCP sockets. shim.py builds
- * it, and has the names of its variables and words.
+/* Calls of the C library that fail, or fall short (LD_PRELOAD): requests for memory, and calls on TCP sockets; and a clock that
+ * is ahead. shim.py builds it, and has the names of its variables and words.
  *
  * REFUSE_AT=N refuses the Nth request for memory of the process, counted from 1, and no other one. REFUSE_ONE_IN=M refuses one
  * in M, by a generator over FAIL_SEED and the request's number. With REFUSE_FD=D a byte `r` is written to the file descriptor D
@@ -29,28 +29,44 @@
  *
  * The board's word BREAK is how many readers' waits are to fail from then on, for good and with EBADF: those of the epolls to
  * which a connection that was accepted was added by another thread than the main one. BREAK_FIRST says whether those fail to
- * which one was added by the main thread. */
+ * which one was added by the main thread.
+ *
+ * The board's word AHEAD is by how many seconds the monotonic clock is ahead of the system's. SLEEPS is how many milliseconds a
+ * wait of 100 takes, where it is not 0: so long is the longest wait of a thread of the program, and a wake that was lost is not
+ * made up for then. PAUSE is how many microseconds a reader's wake of another thread takes more: it loses its core behind it,
+ * and the other one goes on.
+ *
+ * A reader may lose its core at any instruction. WHO is 1 if the main thread is to, and 2 if another reader is. Once it wakes
+ * behind ARMED was set, it stops STEP instructions behind the call of number CALL: the wait that it woke from is number 0, and
+ * each wait or look at the clock is a further one. STOPPED says that it stands, until GO is set. PASSED is how many calls it
+ * made, once it sleeps again; STEPS, how many instructions it made to the next call, where it did not stop; and SLEEPING, whether
+ * it sleeps. On other processors than x86-64 it stops nowhere. */
 #define _GNU_SOURCE
 #include <dlfcn.h>
 #include <errno.h>
 #include <fcntl.h>
 #include <netinet/in.h>
+#include <signal.h>
 #include <stdatomic.h>
 #include <stdint.h>
 #include <stdio.h>
 #include <stdlib.h>
 #include <string.h>
 #include <sys/epoll.h>
+#include <sys/eventfd.h>
 #include <sys/mman.h>
 #include <sys/socket.h>
+#include <sys/syscall.h>
 #include <sys/uio.h>
 #include <sys/wait.h>
+#include <time.h>
+#include <ucontext.h>
 #include <unistd.h>
 
 /* Words of the board; shim.py has their names in this order. */
 enum word { ON, CALLS, SHORT_READ, SHORT_WRITE, WAIT_READ, WAIT_WRITE, CUT_READ, CUT_WRITE, RESET_READ, RESET_WRITE, REFUSED,
     NO_PORT, NO_SOCKET, NO_ACCEPT, ABORTED, CUT_ACCEPT, CUT_WAIT, REQUESTS, NO_MEMORY, BREAK, BROKEN, BREAK_FIRST,
-    WORDS };
+    AHEAD, SLEEPS, PAUSE, WHO, CALL, STEP, ARMED, STOPPED, GO, PASSED, STEPS, SLEEPING, WORDS };
 
 /* How often of 65,536 draws. */
 enum {
@@ -67,12 +83,18 @@ enum {
 };
 
 #define MOST 4096
+#define LONGEST 100
 
 /* What is known of a descriptor. */
 static struct {
-    atomic_int is_stream, is_thin, is_taken, is_reader, is_first, is_broken, poll;
+    atomic_int is_stream, is_thin, is_taken, is_reader, is_first, is_broken, is_waker, poll;
     struct epoll_event event;
 } known[MOST];
+
+/* Whether the thread is a reader, is followed from call to call, and from instruction to instruction. */
+static _Thread_local int reads, is_followed, is_stepped;
+/* How many calls it made since it woke, and how many instructions since the last of these. */
+static _Thread_local uint64_t calls, steps;
 
 static _Atomic uint64_t none[WORDS];
 static _Atomic uint64_t *board = none;
@@ -89,6 +111,8 @@ static uint64_t number(const char *name, uint64_t absent) {
     const char *text = getenv(name);
     return text ? strtoull(text, 0, 10) : absent;
 }
+
+static void on_trap(int number, siginfo_t *info, void *at);
 
 /* Goes on into `main` in a child for each request that is refused, and ends behind the child that met no refusal. */
 static void run_each(void) {
@@ -120,6 +144,8 @@ __attribute__((constructor)) static void begin(void) {
         void *at = mmap(0, 4096, PROT_READ | PROT_WRITE, MAP_SHARED, file, 0);
         if (at != MAP_FAILED) board = at;
         close(file);
+        struct sigaction trap = {.sa_sigaction = on_trap, .sa_flags = SA_SIGINFO};
+        sigaction(SIGTRAP, &trap, 0);
     }
     if (which && !strcmp(which, "all")) run_each();
     else refused_at = number("REFUSE_AT", 0);
@@ -140,6 +166,64 @@ static uint64_t draw(void) { return drawn(seed * 0xd1342543de82ef95u, atomic_fet
 
 /* Whether something comes that comes so often of 65,536 draws. */
 static int comes(unsigned often) { return atomic_load(&board[ON]) && (draw() & 65535) < often; }
+
+/* The processor traps behind each instruction of a thread whose flags have this. */
+#define TRAPS 0x100
+
+static void on_trap(int number, siginfo_t *info, void *at) {
+#ifdef __x86_64__
+    greg_t *flags = &((ucontext_t *)at)->uc_mcontext.gregs[REG_EFL];
+    int was = errno;
+    (void)number, (void)info;
+    if (is_stepped && steps++ == atomic_load(&board[STEP])) {
+        is_stepped = 0;
+        atomic_store(&board[STOPPED], 1);
+        while (!atomic_load(&board[GO])) usleep(20);
+    }
+    *flags = is_stepped ? *flags | TRAPS : *flags & ~(greg_t)TRAPS;
+    errno = was;
+#else
+    (void)number, (void)info, (void)at;
+#endif
+}
+
+/* Whether this thread is the one to be stopped. */
+static int is_chosen(void) {
+    uint64_t who = atomic_load(&board[WHO]);
+    return who && reads && (gettid() == getpid()) == (who == 1);
+}
+
+/* A thread that is followed makes a call: its instructions are counted up to here. */
+static void arrive(void) {
+    if (is_stepped) atomic_store(&board[STEPS], steps);
+    is_stepped = 0;
+}
+
+/* It goes on behind a call. */
+static void go_on(void) {
+    if (!is_followed || calls++ != atomic_load(&board[CALL])) return;
+    sigset_t trap;
+    sigemptyset(&trap);
+    sigaddset(&trap, SIGTRAP);
+    pthread_sigmask(SIG_UNBLOCK, &trap, 0);
+    steps = 0;
+    is_stepped = 1;
+    syscall(SYS_tgkill, getpid(), gettid(), SIGTRAP);
+}
+
+/* It is about to sleep. */
+static void lie_down(void) {
+    if (is_followed) atomic_store(&board[PASSED], calls);
+    is_followed = 0;
+    atomic_store(&board[SLEEPING], 1);
+}
+
+/* It woke. */
+static void get_up(void) {
+    atomic_store(&board[SLEEPING], 0);
+    is_followed = atomic_exchange(&board[ARMED], 0) != 0;
+    calls = 0;
+}
 
 static int is_stream(int fd) { return fd >= 0 && fd < MOST && atomic_load(&known[fd].is_stream); }
 
@@ -167,6 +251,7 @@ int epoll_ctl(int poll, int op, int fd, struct epoll_event *event) {
             atomic_store(&known[fd].poll, poll);
             if (atomic_load(&known[fd].is_taken) && poll < MOST) {
                 atomic_store(gettid() == getpid() ? &known[poll].is_first : &known[poll].is_reader, 1);
+                reads = 1;
             }
         }
     }
@@ -201,7 +286,27 @@ int epoll_wait(int poll, struct epoll_event *events, int most, int longest) {
         return -1;
     }
     if (comes(EPOLL)) return fail(EINTR, CUT_WAIT);
-    return real(poll, events, most, longest);
+    int sleeps = (int)atomic_load(&board[SLEEPS]), is_long = longest == LONGEST, chosen = is_chosen();
+    arrive();
+    if (chosen && is_long) lie_down();
+    int result = real(poll, events, most, sleeps && is_long ? sleeps : longest), was = errno;
+    if (chosen && is_long) get_up();
+    go_on();
+    errno = was;
+    return result;
+}
+
+int eventfd(unsigned int first, int flags) {
+    REAL(eventfd);
+    int fd = real(first, flags);
+    if (fd >= 0 && fd < MOST) atomic_store(&known[fd].is_waker, 1);
+    return fd;
+}
+
+/* A reader woke another thread. */
+static void pause_behind(int fd) {
+    useconds_t pause = (useconds_t)atomic_load(&board[PAUSE]);
+    if (pause && reads && fd >= 0 && fd < MOST && atomic_load(&known[fd].is_waker)) usleep(pause);
 }
 
 int socket(int domain, int type, int protocol) {
@@ -309,7 +414,11 @@ ssize_t send(int fd, const void *from, size_t length, int flags) {
 
 ssize_t write(int fd, const void *from, size_t length) {
     REAL(write);
-    if (!is_stream(fd) || !length) return real(fd, from, length);
+    if (!is_stream(fd) || !length) {
+        ssize_t written = real(fd, from, length);
+        pause_behind(fd);
+        return written;
+    }
     size_t most = most_of(fd, length, 1);
     return most ? moved(fd, most, length, real(fd, from, most)) : -1;
 }
@@ -352,6 +461,15 @@ ssize_t writev(int fd, const struct iovec *from, int count) {
     size_t most = most_of(fd, length, 1);
     if (!most) return -1;
     return moved(fd, most, length, real(fd, pieces, (int)front(from, count, most, pieces)));
+}
+
+/* It asks the kernel itself: a sanitizer reads the clock before the next library can be looked up. */
+int clock_gettime(clockid_t which, struct timespec *to) {
+    arrive();
+    int failed = (int)syscall(SYS_clock_gettime, which, to);
+    if (!failed && which == CLOCK_MONOTONIC) to->tv_sec += (time_t)atomic_load(&board[AHEAD]);
+    go_on();
+    return failed;
 }
 
 /* Whether a request for memory is refused. */

@@ -1,4 +1,4 @@
-"""Starts programs under shim.c, by which requests for memory are refused, and calls on sockets fail."""
+"""Starts programs under shim.c: requests for memory are refused, calls on sockets fail, a clock is ahead, threads stop."""
 
 import mmap
 import os
@@ -10,8 +10,9 @@ from typing import NamedTuple
 
 SOURCE = pathlib.Path(__file__).resolve().with_name("shim.c")
 WORDS = """on calls short-read short-write wait-read wait-write cut-read cut-write reset-read reset-write
-connect-refused no-port no-socket no-accept aborted cut-accept cut-wait requests no-memory break broken break-first""".split()
-FAILURES = [word for word in WORDS[2:] if word not in ("requests", "break", "broken", "break-first")]
+connect-refused no-port no-socket no-accept aborted cut-accept cut-wait requests no-memory break broken break-first
+ahead sleeps pause who call step armed stopped go passed steps sleeping""".split()
+FAILURES = [word for word in WORDS[2:] if word not in ("requests", *WORDS[WORDS.index("break") :])]
 
 
 class Run(NamedTuple):
@@ -84,6 +85,10 @@ class Board:
     def break_first(self):
         """From now on the waits of the first reader fail."""
         struct.pack_into("=Q", self.words, 8 * WORDS.index("break-first"), 1)
+
+    def set(self, word, value):
+        """From now on a word says so."""
+        struct.pack_into("=Q", self.words, 8 * WORDS.index(word), value)
 
     def counts(self):
         """What it counted."""
