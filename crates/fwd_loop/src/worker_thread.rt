@@ -100,6 +100,13 @@ impl<'a> WorkerGate<'a> {
         };
     }
 
+    /// A worker that tried a server in vain was at work: it looks for another one soon.
+    fn note(&mut self, news: WorkerEvent) {
+        if let (WorkerEvent::Lost { .. }, Next::Later(_)) = (news, self.next) {
+            self.next = Next::Later(0);
+        }
+    }
+
     /// The worker has a chunk. Where it was woken meanwhile another worker is: the wake may be for
     /// another chunk.
     fn work<R: Wait>(&mut self, rt: &R) {
@@ -128,6 +135,7 @@ impl<'a> Gate for WorkerGate<'a> {
             news,
         };
         self.mailbox.tell(rt, notice);
+        self.note(news);
         if let WorkerEvent::Settled { .. } = news {
             for (reader, desk) in (1..usize::MAX).zip(self.others) {
                 if self.output.hearers.hears(reader) {
