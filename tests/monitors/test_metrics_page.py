@@ -236,7 +236,7 @@ def test_oldest_chunk(relay, next_hop):
         later.ask("later")
         later.ask("b.other")
         assert time.monotonic() - before < 60
-    assert time.monotonic() - before >= 3
+    assert time.monotonic() - before > 2.998  # the relay's clock has whole milliseconds
     now = time.monotonic()
     first, age = ages()
     assert first == 0 and int(now - sent) <= age <= time.monotonic() - before
