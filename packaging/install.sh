@@ -13,7 +13,8 @@
 #     P/share/doc/forward_relay/       OPERATING.md, FORMATS.md, CHANGELOG.md, the example settings, and the list of folders
 #                                      that were made
 #     P/lib/systemd/system/forward_relay.service
-#     P/etc/forward_relay/relay.toml   the example settings, readable by root alone, and never over an existing file;
+#     P/etc/forward_relay/relay.toml   the example settings with the unit's control socket, readable by root alone, and
+#                                      never over an existing file;
 #                                      where P is /usr or /usr/local it is /etc/forward_relay/relay.toml
 #
 # Where DESTDIR is set all of it goes below that folder, as for a package, and the paths in the texts stay those above.
@@ -93,6 +94,11 @@ put_filled() {
     rm "$filled"
 }
 
+# writes the settings that are installed: the example's, and the control socket in the folder that the unit makes
+write_settings() {
+    sed 's|^# control = |control = |' examples/relay.toml
+}
+
 install_all() {
     [ -x "$program" ] || {
         cat >&2 <<TEXT
@@ -118,7 +124,10 @@ TEXT
     if [ -e "$root$etc/relay.toml" ]; then
         echo "kept $root$etc/relay.toml"
     else
-        put examples/relay.toml 600 "$etc/relay.toml"
+        filled=$(mktemp)
+        write_settings >"$filled"
+        put "$filled" 600 "$etc/relay.toml"
+        rm "$filled"
     fi
     printf %s "$made" | cat - "$folders" 2>/dev/null >"$folders.new" || :
     mv -f "$folders.new" "$folders"
@@ -148,7 +157,7 @@ uninstall_all() {
         take "$doc/${file##*/}"
     done
     take "$unit/forward_relay.service"
-    if [ ! -e "$root$etc/relay.toml" ] || cmp -s examples/relay.toml "$root$etc/relay.toml"; then
+    if [ ! -e "$root$etc/relay.toml" ] || write_settings | cmp -s - "$root$etc/relay.toml"; then
         take "$etc/relay.toml"
     else
         echo "kept $root$etc/relay.toml, which is not the example"

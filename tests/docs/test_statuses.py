@@ -55,7 +55,7 @@ def test_refused_settings(program, tmp_path):
 
 def test_calls(program):
     """A call that it does not know is told what it knows."""
-    usage = "usage: forward_relay run CONFIG [TURNS] | check CONFIG | replay\n"
+    usage = "usage: forward_relay run CONFIG [TURNS] | stop CONFIG [SECONDS] | check CONFIG | replay\n"
     for words in ([], ["start"], ["check"], ["run", "a", "b"], ["replay", "x"], [b"check\xff", "a"]):
         assert ended([program, *words]) == (2, usage), words
 
@@ -104,7 +104,7 @@ def test_documents():
     man = re.search(r"^\.Sh EXIT STATUS\n(.*?)^\.Sh ", text_of("packaging/forward_relay.8"), re.MULTILINE | re.DOTALL)[
         1
     ]
-    assert {row[0] for row in table} == set(re.findall(r"^\.It (\d)$", man, re.MULTILINE)) == set("012345")
+    assert {row[0] for row in table} == set(re.findall(r"^\.It (\d)$", man, re.MULTILINE)) == set("0123456")
     told = {span for row in table for span in spans(row[1].replace("\\|", "|"))}
     assert {"settings: ", "line N: bad event", "memory", "listen: ADDRESS", "input", "output"} <= told
-    assert "usage: forward_relay run CONFIG [TURNS] | check CONFIG | replay" in told
+    assert "usage: forward_relay run CONFIG [TURNS] | stop CONFIG [SECONDS] | check CONFIG | replay" in told

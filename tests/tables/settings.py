@@ -130,6 +130,16 @@ for frame, key, empty in [
     ]:
         value(frame, key, f'"{part * times}"', flaw)
     values(frame, key, ["1", "0.5", "false", "[]", "{}"], "wrong kind")
+for part, times, flaw in [
+    ("a", 0, "out of range"),
+    ("a", 1, "good"),
+    ("a", 107, "good"),
+    ("a", 108, "out of range"),
+    ("\u00e9", 53, "good"),
+    ("\u00e9", 54, "out of range"),
+]:
+    value("relay", "control", f'"{part * times}"', flaw)
+values("relay", "control", ["1", "0.5", "false", "[]", "{}"], "wrong kind")
 for frame in ["relay", "output"]:
     for part, times, flaw in [
         ("a", 0, "out of range"),
@@ -170,6 +180,7 @@ for frame, key, least, most in [
     ("relay", "depth", 8, 128),
     ("relay", "readers", 1, 16),
     ("relay", "idle_limit", 1, 86400000),
+    ("relay", "stop_wait", 1, 86400000),
     ("output", "workers", 1, 16),
     ("output", "chunk_limit", 1, 16000000),
     ("output", "total_limit", 1, 1000000000000),
@@ -228,6 +239,8 @@ for frame, key, good, other_kind in [
     ("keyed", "user", USERS, "1"),
     ("relay", "metrics", "true", "1"),
     ("relay", "idle_limit", "600000", '"10 min"'),
+    ("relay", "control", '"a"', "1"),
+    ("relay", "stop_wait", "1000", '"1 s"'),
     ("unnamed", "name", '"n"', "1"),
     ("named", "password", '"p"', "1"),
     ("unmatched", "match", '"a"', "1"),
@@ -342,6 +355,9 @@ for whole, told in [
     ('[relay]\nmetrics = 1\nshared_key = "k"\nuser = [{ name = "" }]', "out of range relay.user[0].name"),
     ("[relay]\nidle_limit = 0\nmetrics = 1\n[[output]]", "wrong kind relay.metrics"),
     ("[relay]\nidle_limit = 0\n[[output]]", "out of range relay.idle_limit"),
+    ("[relay]\nstop_wait = 0\ncontrol = 1\nidle_limit = 0", "out of range relay.idle_limit"),
+    ("[relay]\nstop_wait = 0\ncontrol = 1", "wrong kind relay.control"),
+    ("[relay]\nstop_wait = 0\n[[output]]", "out of range relay.stop_wait"),
     ('[relay]\nshared_key = ""\nuser = []', "out of range relay.shared_key"),
     ("[relay]\nuser = [1]\n[[output]]", "out of range relay.user"),
     ('[relay]\nshared_key = "k"\nuser = [{ name = "" }, 1]\n[[output]]', "out of range relay.user[0].name"),
@@ -382,6 +398,8 @@ RELAY = {
     "readers": "1",
     "metrics": "false",
     "idle_limit": "none",
+    "control": "none",
+    "stop_wait": "30000",
 }
 OUTPUT = {
     "match a.b": "true",
@@ -418,6 +436,8 @@ SET_RELAY = {
     "user[1].password": "q",
     "metrics": "true",
     "idle_limit": "900000",
+    "control": "/run/c",
+    "stop_wait": "1500",
 }
 SET_OUTPUT = {
     "match a.b": "true",
@@ -447,6 +467,7 @@ sets(
     '[relay]\nlisten = "0.0.0.0:1"\nmonitor = "[::1]:65535"\nhostname = "h"\n'
     'shared_key = "k"\nrun_id = "0123456789aB"\n' + f'seed = "{"0" * 62}Ff"\n'
     "connections = 2\nmessage_limit = 1025\ndepth = 9\nreaders = 3\nmetrics = true\nidle_limit = 900000\n"
+    'control = "/run/c"\nstop_wait = 1500\n'
     '[[relay.user]]\nname = "n"\npassword = "p"\n'
     '[[relay.user]]\nname = "m"\npassword = "q"\n' + C,
     SET_RELAY,

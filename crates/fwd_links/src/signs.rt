@@ -9,6 +9,8 @@ use std::sync::atomic::{AtomicBool, AtomicUsize, Ordering};
 struct Words {
     /// All readers and workers are to end.
     is_stopped: AtomicBool,
+    /// The relay was asked to stop: readers read what is under way alone, and close all chunks.
+    is_draining: AtomicBool,
     /// How many workers have given back the memory that they keep in reserve.
     lacking: AtomicUsize,
     /// How many readers read sources, and take memory for what they send.
@@ -29,6 +31,7 @@ impl Signs {
     pub fn new(alloc: Global) -> Result<Signs, AllocError> {
         let words = Words {
             is_stopped: AtomicBool::new(false),
+            is_draining: AtomicBool::new(false),
             lacking: AtomicUsize::new(0),
             reading: AtomicUsize::new(0),
             tight: AtomicUsize::new(0),
@@ -52,6 +55,16 @@ impl Signs {
     /// Whether all readers and workers are to end.
     pub fn is_stopped(&self) -> bool {
         self.words.is_stopped.load(Ordering::SeqCst)
+    }
+
+    /// The relay was asked to stop: from now on it delivers what it holds, and takes nothing new.
+    pub fn drain(&self) {
+        self.words.is_draining.store(true, Ordering::SeqCst);
+    }
+
+    /// Whether the relay was asked to stop.
+    pub fn is_draining(&self) -> bool {
+        self.words.is_draining.load(Ordering::SeqCst)
     }
 
     /// A worker is to give back the memory that it keeps in reserve: no reader reads a further

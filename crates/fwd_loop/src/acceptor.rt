@@ -95,6 +95,37 @@ impl SourceSetup {
     }
 }
 
+/// The place of the reader that has the most sources that wait, among the others, whose desks these
+/// are, where one has any.
+fn most_crowded(desks: &[ReaderDesk]) -> Option<usize> {
+    let mut most = 0;
+    let mut reader = None;
+    for (place, desk) in (0..usize::MAX).zip(desks) {
+        let crowding = desk.crowding();
+        if most < crowding {
+            most = crowding;
+            reader = Some(place);
+        }
+    }
+    reader
+}
+
+/// Other readers are asked to close a source that gives its place: each where one may be idle,
+/// which it alone knows; and of those that wait only the reader that has most.
+fn ask_others(desks: &[ReaderDesk], rule: PlaceRule) {
+    let crowded = if rule.is_crowded {
+        most_crowded(desks)
+    } else {
+        None
+    };
+    for (place, desk) in (0..usize::MAX).zip(desks) {
+        let is_crowded = crowded == Some(place);
+        if rule.idle_limit.is_some() || is_crowded {
+            desk.want_place(is_crowded);
+        }
+    }
+}
+
 impl Acceptor {
     /// One of the listeners told that connections wait.
     pub fn notified(&mut self, token: Token) {
@@ -157,8 +188,8 @@ impl Acceptor {
     }
 
     /// Closes the source that gives its place, of those that the first reader has, and says whether
-    /// one does. Where none does, the other readers are asked to do so in their next turns, and none
-    /// is looked for again within the millisecond. One list of all readers' sources would be a lock
+    /// one does. Where none does, other readers are asked to do so in their next turns, and none is
+    /// looked for again within the millisecond. One list of all readers' sources would be a lock
     /// that each read takes.
     fn free_place<R: Wait, W: Observer>(
         &mut self,
@@ -178,11 +209,7 @@ impl Acceptor {
             return true;
         }
         self.none_idle = Some(incoming.now);
-        if rule.idle_limit.is_some() || rule.is_crowded {
-            for desk in incoming.desks {
-                desk.want_place(rule.is_crowded);
-            }
-        }
+        ask_others(incoming.desks, rule);
         false
     }
 
@@ -237,6 +264,16 @@ impl Acceptor {
         let mut all = 0usize;
         for (handed, desk) in self.handed.iter().zip(desks) {
             all = all.saturating_add(handed.saturating_sub(desk.gone()));
+        }
+        all
+    }
+
+    /// How many sources stand at the other readers, whose desks these are, or are to be taken by
+    /// them.
+    pub fn standing(&self, desks: &[ReaderDesk]) -> usize {
+        let mut all = 0usize;
+        for (handed, desk) in self.handed.iter().zip(desks) {
+            all = all.saturating_add(handed.saturating_sub(desk.closed()));
         }
         all
     }

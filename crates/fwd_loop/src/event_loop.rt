@@ -1,13 +1,16 @@
 //! What the loop waits for, reads and writes.
 
 use crate::acceptor::{Acceptor, Incoming};
+use crate::control::Control;
+use crate::control_text::ControlAnswer;
+use crate::draining::{is_dropped, read_leaving};
 use crate::fault::StartFault;
 use crate::loop_memory::LoopMemory;
 use crate::lost_servers::{LostServers, fact_of};
 use crate::places::{PlaceRule, free_place, part, tell_closed};
 use crate::readers::ReaderDesk;
 use crate::run_clock::RunClock;
-use crate::visiting::{After, after_visit, note, read_source, serve_monitor, tell_end};
+use crate::visiting::{After, after_visit, note, serve_monitor, tell_end};
 use fwd_links::{Mailbox, Notices};
 use fwd_peers::{CloseReason, SourcePeer};
 use fwd_routing::{
@@ -29,6 +32,9 @@ pub(crate) const MONITORS: Token = Token(usize::MAX - 1);
 
 /// What tells that a worker told something.
 pub(crate) const WAKER: Token = Token(usize::MAX - 2);
+
+/// What tells that somebody is at the control socket.
+pub(crate) const CONTROL: Token = Token(usize::MAX - 3);
 
 /// The longest wait of a turn, in milliseconds.
 const LONGEST: u64 = 100;
@@ -71,6 +77,8 @@ pub(crate) struct EventLoop {
     pub room: Vec<u8>,
     /// The listeners, which the first reader has.
     pub acceptor: Option<Acceptor>,
+    /// The control socket, which the first reader has where the settings name one.
+    pub control: Option<Control>,
     pub connections: Connections,
     /// How long a source has to be silent that gives its place to a new one (milliseconds), if any
     /// does.
@@ -110,6 +118,52 @@ impl EventLoop {
         }
         acceptor.accept_monitors(&mut gate, observer);
         self.acceptor = Some(acceptor);
+    }
+
+    /// The same for a relay that was asked to stop: it takes all that wait, closes the listener of
+    /// sources once none does, and says whether it is closed.
+    pub fn accept_last<R: Wait, W: Observer>(
+        &mut self,
+        rt: &R,
+        router: &mut Router<'_>,
+        desks: &[ReaderDesk],
+        observer: &mut W,
+        now: u64,
+    ) -> bool {
+        match &mut self.acceptor {
+            Some(acceptor) if acceptor.sources.is_open() => acceptor.sources.notified(),
+            _ => return true,
+        }
+        self.accept(rt, router, desks, observer, now);
+        let Some(acceptor) = &mut self.acceptor else {
+            return true;
+        };
+        if acceptor.sources.is_quiet() {
+            acceptor.sources.close();
+        }
+        !acceptor.sources.is_open()
+    }
+
+    /// Within how long the relay is asked to stop, in milliseconds, if it is.
+    pub fn asked_wait(&mut self) -> Option<u64> {
+        let control = self.control.as_mut()?;
+        control.asked(self.poll.registry())
+    }
+
+    /// Tells whoever asked the relay to stop.
+    pub fn tell_control(&mut self, answer: ControlAnswer) {
+        if let Some(control) = &mut self.control {
+            control.tell(answer);
+        }
+    }
+
+    /// How many sources stand, of all readers together, whose desks these are but for the first.
+    pub fn standing(&self, desks: &[ReaderDesk]) -> usize {
+        let others = match &self.acceptor {
+            Some(acceptor) => acceptor.standing(desks),
+            None => 0,
+        };
+        self.connections.standing().saturating_add(others)
     }
 
     /// Takes a source that it was handed at a moment (milliseconds).
@@ -266,6 +320,11 @@ impl EventLoop {
                         acceptor.notified(event.token());
                     }
                 }
+                CONTROL => {
+                    if let Some(control) = &mut self.control {
+                        control.notified();
+                    }
+                }
                 Token(key) => note(&mut self.connections, key, event),
             }
         }
@@ -374,8 +433,8 @@ impl EventLoop {
                 After::Again
             }
             Connection::Source(source) => {
-                let again = read_source(source, self.alloc, &mut self.room, to_end, desk.now);
-                let waits = desk.router.admit_all(rt, source, desk.now);
+                let again = read_leaving(source, self.alloc, &mut self.room, to_end, desk.now);
+                let waits = !is_dropped(source) && desk.router.admit_all(rt, source, desk.now);
                 if tell_end(source, observer) {
                     self.memory.refuse(desk.now);
                 }

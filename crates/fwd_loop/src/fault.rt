@@ -3,6 +3,7 @@
 ghost use Rattle.std.specs.Prelude.{◌≡◌};
 ghost use Rattle.fwd_loop.specs.declared.fault.StartFault.TheVariants as faults;
 
+use crate::control::ControlPath;
 use fwd_links::WaitFault;
 use std::alloc::{AllocError, AllocFailed};
 use std::net::SocketAddr;
@@ -17,6 +18,9 @@ pub enum StartFault {
     /// Nobody can be listened for at this address, which the settings name.
     #[error("listen: {0}")]
     Listen(SocketAddr),
+    /// The control socket cannot be had at this path, which the settings name.
+    #[error("listen: {0}")]
+    Control(ControlPath),
     /// The system gives nothing to wait for sockets with, or a wait failed.
     #[error("start: poll")]
     Poll,

@@ -5,12 +5,16 @@
 #![tactic(auto)]
 
 mod acceptor;
+mod control;
+mod control_text;
+mod draining;
 mod event_loop;
 mod fault;
 mod files;
 mod listener;
 mod loop_memory;
 mod lost_servers;
+mod outcome;
 mod places;
 mod platform;
 mod random_streams;
@@ -24,9 +28,13 @@ mod visiting;
 mod worker_pools;
 mod worker_thread;
 
+pub use control::ControlPath;
+pub use control_text::ControlAnswer;
+pub use draining::Ending;
 pub use fault::StartFault;
 pub use fwd_peers::CloseReason;
 pub use fwd_routing::{JournalEvent, ListenerKind, MemoryFor, Observer};
+pub use outcome::Outcome;
 pub use platform::Platform;
 pub use relay_loop::Loop;
 pub use threads::{Beside, Started};

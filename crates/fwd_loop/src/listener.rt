@@ -33,7 +33,8 @@ pub(crate) enum Arrival {
 /// A listener.
 #[derive(Drop)]
 pub(crate) struct Listener {
-    listener: TcpListener,
+    /// Until it is closed.
+    listener: Option<TcpListener>,
     /// Where it listens.
     address: SocketAddr,
     calling: Calling,
@@ -49,7 +50,7 @@ impl Listener {
     ) -> Result<Listener, StartFault> {
         match Listener::listen(rt, poll, address, token) {
             Ok(listener) => Ok(Listener {
-                listener,
+                listener: Some(listener),
                 address,
                 calling: Calling::Quiet,
             }),
@@ -86,13 +87,32 @@ impl Listener {
         self.calling == Calling::Now
     }
 
+    /// Whether none waits, by what the system told last.
+    pub fn is_quiet(&self) -> bool {
+        self.calling == Calling::Quiet
+    }
+
+    /// It is closed: nobody connects any more. Who waits is refused.
+    pub fn close(&mut self) {
+        self.listener = None;
+        self.calling = Calling::Quiet;
+    }
+
+    /// Whether it is not closed.
+    pub fn is_open(&self) -> bool {
+        self.listener.is_some()
+    }
+
     /// The next connection that waits, if there is one. Where the system cannot give it, as for
     /// want of descriptors, it is tried again after the next wait.
     pub fn next(&mut self) -> Arrival {
         if self.calling == Calling::Quiet {
             return Arrival::None;
         }
-        match self.listener.accept() {
+        let Some(listener) = &self.listener else {
+            return Arrival::None;
+        };
+        match listener.accept() {
             Ok((stream, peer)) => {
                 self.calling = Calling::Now;
                 Arrival::Came(stream, peer)

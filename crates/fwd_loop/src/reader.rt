@@ -2,6 +2,7 @@
 //! nonces are drawn in the order in which sources come. A ticket never leaves its reader, so that a
 //! receipt meets its own connections.
 
+use crate::draining;
 use crate::event_loop::{Desk, EventLoop};
 use crate::fault::StartFault;
 use crate::readers::ReaderDesk;
@@ -162,7 +163,38 @@ impl<'a, R: Wait + Clock> Reader<'a, R> {
     pub fn figures(&self, desks: &[ReaderDesk], now: u64) -> Figures {
         let mut figures = self.event_loop.figures(desks, now);
         figures.start = self.started;
+        figures.is_draining = self.is_draining();
         figures
+    }
+
+    /// Whether the relay was asked to stop.
+    pub fn is_draining(&self) -> bool {
+        self.mailbox.signs().is_draining()
+    }
+
+    /// Takes the last sources of a relay that was asked to stop, at a moment (milliseconds), and
+    /// says whether the listener is closed.
+    pub fn accept_last<W: Observer>(
+        &mut self,
+        rt: &R,
+        desks: &[ReaderDesk],
+        observer: &mut W,
+        now: u64,
+    ) -> bool {
+        self.event_loop
+            .accept_last(rt, &mut self.router, desks, observer, now)
+    }
+
+    /// Visits each source where the relay was asked to stop, at a moment (milliseconds).
+    pub fn sweep(&mut self, now: u64) {
+        if self.is_draining() {
+            draining::sweep(&mut self.event_loop.connections, now);
+        }
+    }
+
+    /// How many sources stand, of all readers together, whose desks these are but for the first.
+    pub fn standing(&self, desks: &[ReaderDesk]) -> usize {
+        self.event_loop.standing(desks)
     }
 
     /// What pages are made of.
@@ -226,7 +258,8 @@ impl<'a, R: Wait + Clock> Reader<'a, R> {
     /// Flushes what is due at a moment (milliseconds), and wakes workers for it; counts what was
     /// admitted; and looks at who waits.
     pub fn flush<W: Observer>(&mut self, rt: &R, observer: &mut W, now: u64) {
-        self.router.flush(rt, now);
+        self.router
+            .flush(rt, now, self.mailbox.signs().is_draining());
         self.router.count(rt, self.tally);
         self.router.tend(rt, observer, now);
     }

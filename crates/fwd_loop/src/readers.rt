@@ -19,6 +19,8 @@ pub(crate) struct ReaderDesk {
     sources: Mutex<Vec<SourcePeer>>,
     /// How many of those that it was handed take no place any more.
     gone: AtomicUsize,
+    /// How many of those that it was handed stand no more.
+    closed: AtomicUsize,
     /// How many of its sources take a place and wait at outputs.
     crowding: AtomicUsize,
     /// A new source found no place since the reader looked last.
@@ -34,6 +36,7 @@ impl ReaderDesk {
             mailbox,
             sources: Mutex::new(Vec::new(alloc)),
             gone: AtomicUsize::new(0),
+            closed: AtomicUsize::new(0),
             crowding: AtomicUsize::new(0),
             wants_place: AtomicBool::new(false),
             is_crowded: AtomicBool::new(false),
@@ -58,6 +61,16 @@ impl ReaderDesk {
     pub fn note(&self, gone: usize, crowding: usize) {
         self.gone.store(gone, Ordering::SeqCst);
         self.crowding.store(crowding, Ordering::SeqCst);
+    }
+
+    /// So many of the sources that the reader was handed stand no more.
+    pub fn note_closed(&self, closed: usize) {
+        self.closed.store(closed, Ordering::SeqCst);
+    }
+
+    /// How many of those that it was handed stand no more.
+    pub fn closed(&self) -> usize {
+        self.closed.load(Ordering::SeqCst)
     }
 
     /// A new source found no place: the reader is to close one that gives its own. Sources that

@@ -1,17 +1,20 @@
 //! The relay over sockets.
 
-ghost use Rattle.std.specs.Prelude.{◌≡◌, ◌≤◌, [], length, map, true, IfOk};
+ghost use Rattle.std.specs.Prelude.{◌≡◌, ◌≤◌, [], length, map, true, All, IfOk};
 ghost use Rattle.fwd_config.specs.Configs.{parts_known};
 ghost use Rattle.fwd_settings.specs.Ranges.{in_range};
 ghost use Rattle.fwd_loop.specs.Pools.{all_made_of, hop_of, shown, shown_by, waits};
 ghost use Rattle.fwd_routing.specs.Ends.{AddUp};
 
 use crate::acceptor::{Acceptor, SourceSetup};
+use crate::control::{Control, ControlPath, path_of};
+use crate::draining::Ending;
 use crate::event_loop::{EventLoop, MONITORS, SOURCES, WAKER};
 use crate::fault::StartFault;
 use crate::files::{most_files, sources_within};
 use crate::listener::Listener;
 use crate::loop_memory::LoopMemory;
+use crate::outcome::{Ended, Outcome};
 use crate::platform::Platform;
 use crate::random_streams::RandomStreams;
 use crate::reader::ReaderParts;
@@ -24,7 +27,7 @@ use fwd_config::config_of;
 use fwd_core::{Config, OutputConfig};
 use fwd_links::{Mailbox, Signs};
 use fwd_match::Routes;
-use fwd_routing::{Connections, Observer, PageDesk, SharedTally, reports_of};
+use fwd_routing::{Connections, Observer, Output, PageDesk, SharedTally};
 use fwd_settings::{OutputSettings, ServerSettings, Settings, WhenFull};
 use mio::{Events, Poll, Waker};
 use std::alloc::{AllocError, Global};
@@ -118,6 +121,12 @@ fn address_of<R: Files + AllocGlobal>(rt: &R, settings: &Settings) -> Address {
     }
 }
 
+/// The path of the control socket, if the settings name one.
+fn control_path_of(settings: &Settings) -> Option<ControlPath> {
+    let path = settings.relay.control.as_ref()?;
+    Some(path_of(path.as_str()))
+}
+
 /// Where the servers of each output are reached, and whether sources wait where it is full.
 fn next_hops_of(alloc: Global, outputs: &[OutputSettings]) -> Result<Vec<NextHop>, AllocError>
     ensures { IfOk result (λ hops. hops.items ≡ map hop_of outputs.now) }
@@ -206,6 +215,7 @@ fn event_loop_of<R: Net>(
         events,
         room,
         acceptor: None,
+        control: None,
         connections: Connections::new(alloc, limits.kept as usize),
         idle_limit: limits.idle_limit,
         was_at_work: false,
@@ -347,10 +357,38 @@ impl Loop {
     /// Opens the listeners that the settings name, draws the run's id where they name none, and
     /// makes the outputs and their workers. No thread runs yet.
     ///
-    /// It fails with `Listen` where an address cannot be listened at, with `Poll` where the system
-    /// has nothing to wait with, with `Seed` where the settings have no seed and the system gives
-    /// no random bytes, and with `Memory`.
+    /// It fails with `Listen` where an address cannot be listened at, with `Control` where the
+    /// control socket cannot be had, with `Poll` where the system has nothing to wait with, with
+    /// `Seed` where the settings have no seed and the system gives no random bytes, and with
+    /// `Memory`.
     pub fn new<R: Net + Files + AllocGlobal>(rt: &R, settings: Settings) -> Result<Loop, StartFault>
+        requires { in_range settings ≡ true }
+        ensures { IfOk result (λ relay. relay ≡ map shown_by settings.outputs) }
+    {
+        let control = control_path_of(&settings);
+        let relay = Loop::without_control(rt, settings)?;
+        match control {
+            Some(path) => relay.with_control(rt, path),
+            None => Ok(relay),
+        }
+    }
+
+    /// The same relay, which can be asked to stop over a socket of this path.
+    fn with_control<R: Net + Files>(self, rt: &R, path: ControlPath) -> Result<Loop, StartFault>
+        ensures { IfOk result (λ relay. relay ≡ self) }
+    {
+        let mut relay = self;
+        let event_loop = &mut relay.own.first.event_loop;
+        let control = Control::open(rt, relay.alloc, &event_loop.poll, path)?;
+        event_loop.control = Some(control);
+        Ok(relay)
+    }
+
+    /// The relay of these settings, which cannot be asked to stop.
+    fn without_control<R: Net + Files + AllocGlobal>(
+        rt: &R,
+        settings: Settings,
+    ) -> Result<Loop, StartFault>
         requires { in_range settings ≡ true }
         ensures { IfOk result (λ relay. relay ≡ map shown_by settings.outputs) }
     {
@@ -407,7 +445,6 @@ impl Loop {
     }
 
     /// The same, and an observer is told what the run comes to.
-    #[tactic(auto, using(crate::proofs::Outputs::shown_count))]
     pub fn run_watched<R: Platform, W: Observer>(
         self,
         rt: &R,
@@ -417,25 +454,103 @@ impl Loop {
         ensures count { IfOk result (λ reports. length reports.items ≡ length self) }
         ensures add_up { IfOk result (λ reports. AddUp reports.items) }
     {
+        let Ended {
+            outcome,
+            control: _,
+        } = self.run_apart(rt, observer, count);
+        match outcome {
+            Ok(outcome) => Ok(outcome.reports),
+            Err(fault) => Err(fault),
+        }
+    }
+
+    /// The same, and it answers why the run ended, too. It ends sooner where it is asked to stop:
+    /// once all is delivered and told, or the time is over. Whoever asked is told what came of it,
+    /// and the control socket is removed.
+    pub fn run_to_end<R: Platform + Files, W: Observer>(
+        self,
+        rt: &R,
+        observer: &mut W,
+        count: u64,
+    ) -> Result<Outcome, StartFault>
+        ensures count { IfOk result (λ o. length o.reports.items ≡ length self) }
+        ensures add_up { IfOk result (λ o. AddUp o.reports.items) }
+        ensures delivered { IfOk result (λ o. o.ending ≡ Ending.Delivered
+            → All (λ report. report.counts.held ≡ 0) o.reports.items) }
+    {
+        let Ended { outcome, control } = self.run_apart(rt, observer, count);
+        if let Some(control) = control {
+            let answer = match &outcome {
+                Ok(outcome) => Some(outcome.answer()),
+                Err(_) => None,
+            };
+            control.close(rt, answer);
+        }
+        outcome
+    }
+
+    /// The same, and it hands on who asked it to stop, and is not told yet.
+    #[tactic(auto, using(crate::proofs::Outputs::shown_count))]
+    fn run_apart<R: Platform, W: Observer>(self, rt: &R, observer: &mut W, count: u64) -> Ended
+        ensures count { IfOk result.outcome (λ o. length o.reports.items ≡ length self) }
+        ensures add_up { IfOk result.outcome (λ o. AddUp o.reports.items) }
+        ensures delivered { IfOk result.outcome (λ o. o.ending ≡ Ending.Delivered
+            → All (λ report. report.counts.held ≡ 0) o.reports.items) }
+    {
         let Loop {
             alloc,
             shared,
             mut own,
         } = self;
-        let Opened {
-            mut turns,
-            mut others,
-            workers,
-        } = open(rt, alloc, &shared, &mut own)?;
-        let served = match Beside::new(alloc, workers, &mut others) {
-            Ok(beside) => serve(rt, &mut turns, beside, observer, count),
-            Err(_) => Err(StartFault::Memory),
+        let outcome = match run_parts(rt, &shared, &mut own, observer, count) {
+            Ok(was_asked) => outcome_of(rt, alloc, &shared.outputs, was_asked),
+            Err(fault) => Err(fault),
         };
-        close_all(rt, others);
-        turns.close_watched(rt, observer);
-        served?;
-        Ok(reports_of(rt, alloc, &shared.outputs)?)
+        let control = own.first.event_loop.control.take();
+        Ended { outcome, control }
     }
+}
+
+/// What a run over these outputs came to, which was asked to stop or not. The only error is out of
+/// memory.
+fn outcome_of<R: Wait>(
+    rt: &R,
+    alloc: Global,
+    outputs: &[Output],
+    was_asked: bool,
+) -> Result<Outcome, StartFault>
+    ensures count { IfOk result (λ o. length o.reports.items ≡ length outputs.now) }
+    ensures add_up { IfOk result (λ o. AddUp o.reports.items) }
+    ensures delivered { IfOk result (λ o. o.ending ≡ Ending.Delivered
+        → All (λ report. report.counts.held ≡ 0) o.reports.items) }
+{
+    Ok(Outcome::of(rt, alloc, outputs, was_asked)?)
+}
+
+/// Runs a relay of these parts for so many turns, or until it was asked to stop and is to end:
+/// whether it was asked.
+fn run_parts<R: Platform, W: Observer>(
+    rt: &R,
+    shared: &Shared,
+    own: &mut Own,
+    observer: &mut W,
+    count: u64,
+) -> Result<bool, StartFault> {
+    let alloc = rt.alloc();
+    let Opened {
+        mut turns,
+        mut others,
+        workers,
+    } = open(rt, alloc, shared, own)?;
+    let served = match Beside::new(alloc, workers, &mut others) {
+        Ok(beside) => serve(rt, &mut turns, beside, observer, count),
+        Err(_) => Err(StartFault::Memory),
+    };
+    let was_asked = turns.is_drained();
+    close_all(rt, others);
+    turns.close_watched(rt, observer);
+    served?;
+    Ok(was_asked)
 }
 
 /// Makes so many turns in this thread, and as many in each thread beside it, until all have ended;
@@ -461,7 +576,7 @@ fn serve<R: Platform, W: Observer>(
         if served.is_ok() {
             served = turns.run(rt, observer, count);
         }
-        if served.is_err() {
+        if served.is_err() || turns.is_drained() {
             turns.stop();
         }
         if let Some(maker) = maker {

@@ -5,6 +5,7 @@
 ghost use Rattle.std.specs.Prelude.{IfOk};
 ghost use Rattle.fwd_routing.specs.Ends.{AddUp};
 
+use crate::draining::Drain;
 use crate::event_loop::tell_all;
 use crate::fault::StartFault;
 use crate::lost_servers::LostServers;
@@ -179,6 +180,7 @@ pub struct Turns<'a, R: Clock> {
     /// A thread makes pages: else one is made when it is asked for.
     are_pages_ordered: bool,
     lost_servers: LostServers,
+    drain: Drain,
 }
 
 /// The turns of a reader of a relay beside the first, in a thread of its own. They must be spent:
@@ -241,6 +243,7 @@ pub(crate) fn open<'a, R: Wait + Clock>(
         pages: &shared.pages,
         are_pages_ordered: false,
         lost_servers,
+        drain: Drain::new(),
     };
     Ok(Opened {
         turns,
@@ -280,6 +283,7 @@ impl<'a, R: Wait + Clock> ReaderTurns<'a, R> {
         if let Some(is_crowded) = self.desk.take_want() {
             reader.give_place(rt, &mut observer, is_crowded, now);
         }
+        reader.sweep(now);
         let now = reader.moment();
         reader.flush(rt, &mut observer, now);
         if self.reader.passes_on() {
@@ -287,6 +291,8 @@ impl<'a, R: Wait + Clock> ReaderTurns<'a, R> {
         }
         let (open, crowding) = self.reader.sources();
         self.desk.note(self.taken.saturating_sub(open), crowding);
+        let standing = self.reader.standing(&[]);
+        self.desk.note_closed(self.taken.saturating_sub(standing));
         Ok(())
     }
 
@@ -334,7 +340,8 @@ impl<'a, R: Wait + Clock> Turns<'a, R> {
     /// requests, and serves monitors; takes the connections that wait, and closes those that had
     /// their time and did not show what they are; flushes what is due, and wakes workers for it;
     /// and sends the monitors that wait the page that was made. What is not done yet is done in a
-    /// later turn.
+    /// later turn. Where the relay was asked to stop it goes on with that behind the connections
+    /// that wait.
     ///
     /// It fails with `Poll` where the wait failed.
     pub fn turn(&mut self, rt: &R) -> Result<(), StartFault> {
@@ -373,6 +380,7 @@ impl<'a, R: Wait + Clock> Turns<'a, R> {
         };
         reader.read(rt, observer, pages);
         reader.accept(rt, self.desks, observer, now);
+        self.drain.tend(rt, reader, self.desks, observer, now);
         let now = reader.moment();
         reader.flush(rt, observer, now);
         if self.reader.passes_on() {
@@ -426,7 +434,8 @@ impl<'a, R: Wait + Clock> Turns<'a, R> {
     }
 
     /// So many turns, of which an observer is told, and first where the relay listens. It ends
-    /// sooner where another reader failed.
+    /// sooner where another reader failed, and where the relay was asked to stop and has nothing
+    /// left to do, or no time.
     pub(crate) fn run<W: Observer>(
         &mut self,
         rt: &R,
@@ -436,11 +445,16 @@ impl<'a, R: Wait + Clock> Turns<'a, R> {
         self.reader.tell(observer);
         for _ in 0..turns {
             self.turn_watched(rt, observer)?;
-            if self.reader.is_stopped() {
+            if self.reader.is_stopped() || self.is_drained() {
                 break;
             }
         }
         Ok(())
+    }
+
+    /// Whether the relay was asked to stop, and has nothing left to do, or no time.
+    pub(crate) fn is_drained(&self) -> bool {
+        self.drain.is_over()
     }
 
     /// What each output has to do with at this moment, in all and of each tag, in the settings'
@@ -472,6 +486,7 @@ impl<'a, R: Wait + Clock> Turns<'a, R> {
             pages: _,
             are_pages_ordered: _,
             lost_servers: _,
+            drain: _,
         } = self;
         let alloc = reader.alloc;
         reader.close(rt, observer);

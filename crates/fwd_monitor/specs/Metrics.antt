@@ -214,6 +214,10 @@ start_text (Some start) =
     gauge (codes "forward_relay_start_time_seconds")
     (codes "When the relay started, in seconds since 1970.") start
 
+-- what a gauge says of a flag
+abbrev pub flag_value : Bool → ℕ
+flag_value flag = if flag then 1 else 0
+
 -- what is said of the relay itself
 abbrev pub figures_text : Figures → List ℕ
 figures_text f =
@@ -224,6 +228,9 @@ figures_text f =
     (codes "Sources that are connected.") f.sources
     ++ gauge (codes "forward_relay_sources_limit")
     (codes "The most sources at a time.") f.source_limit
+    ++ gauge (codes "forward_relay_draining")
+    (codes "Whether the relay was asked to stop, and delivers what it holds: 1 or 0.")
+    (flag_value f.is_draining)
 
 -- what is said of the outputs
 abbrev pub outputs_text : List Report → List ℕ

@@ -9,6 +9,8 @@ pub struct Figures {
     pub sources: u64,
     /// The most sources at a time.
     pub source_limit: u64,
+    /// It was asked to stop, and delivers what it holds.
+    pub is_draining: bool,
 }
 
 /// What the metrics page says of an output beside what it has to do with.

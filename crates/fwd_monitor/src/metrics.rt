@@ -8,6 +8,7 @@ ghost use Rattle.fwd_monitor.specs.Metrics.{
   by_output,
   by_tag,
   figures_text,
+  flag_value,
   left_out,
   left_out_text,
   metrics_of,
@@ -30,8 +31,8 @@ use std::alloc::{AllocError, Global};
 /// The metrics page in Prometheus' text format 0.0.4: what is known of the relay itself and what it
 /// counted, what each output has to do with, the most bytes that it holds, how old its oldest chunk
 /// is and what waits to be taken, what was counted of it and of its servers, and what is held of
-/// the first `MAX_TAGS` tags, with how many of each output's are left out. Outputs are numbered from 0 on. Its only
-/// error is out of memory.
+/// the first `MAX_TAGS` tags, with how many of each output's are left out. Outputs are numbered
+/// from 0 on. Its only error is out of memory.
 pub fn metrics_page(
     alloc: Global,
     figures: Figures,
@@ -64,6 +65,7 @@ fn push_figures(text: &mut String, figures: Figures) -> Result<(), AllocError>
         uptime,
         sources,
         source_limit,
+        is_draining,
     } = figures;
     push_start(text, start)?;
     push_gauge(
@@ -84,7 +86,20 @@ fn push_figures(text: &mut String, figures: Figures) -> Result<(), AllocError>
         "The most sources at a time.",
         source_limit,
     )?;
+    push_gauge(
+        text,
+        "forward_relay_draining",
+        "Whether the relay was asked to stop, and delivers what it holds: 1 or 0.",
+        flag_value(is_draining),
+    )?;
     Ok(())
+}
+
+/// What a gauge says of a flag: 1 or 0.
+fn flag_value(flag: bool) -> u64
+    ensures { result ≡ flag_value flag }
+{
+    if flag { 1 } else { 0 }
 }
 
 /// Adds when the relay started, where that is known.

@@ -48,6 +48,12 @@ pub record PeerShown : Type 0 where
   pub given : ℕ
   pub answered : ℕ
 
+-- the relay owes it nothing: no acknowledgement is promised, no byte waits to be sent, and no
+-- request waits to be admitted
+abbrev pub is_owed_nothing : PeerShown → Bool
+is_owed_nothing s =
+    s.promised == 0 && (length s.live.unsent == 0 && length s.live.waiting == 0)
+
 -- its id is its source's: the one under which its requests go
 abbrev pub HasOwnId : PeerShown → Type 0
 HasOwnId s = s.id ≡ s.live.setup.conn

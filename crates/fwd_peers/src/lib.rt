@@ -5,6 +5,7 @@
 mod calls;
 mod close_reason;
 mod cost;
+mod leave_stage;
 mod limits;
 mod peer_state;
 mod source_peer;
@@ -13,6 +14,7 @@ mod waiting_place;
 
 pub use close_reason::{CloseReason, PeerEnd};
 pub use cost::upkeep;
+pub use leave_stage::LeaveStage;
 pub use limits::{GREETING, SMALL_PIECE};
 pub use peer_state::PeerState;
 pub use source_peer::SourcePeer;

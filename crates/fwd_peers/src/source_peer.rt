@@ -26,6 +26,7 @@ ghost use Rattle.fwd_peers.specs.Peers as peers;
 
 use crate::close_reason::{CloseReason, PeerEnd};
 use crate::cost::upkeep;
+use crate::leave_stage::LeaveStage;
 use crate::limits::{ACK_FRONT, GREETING, SHORT_REQUEST, SMALL_PIECE, UNSENT};
 use crate::peer_state::PeerState;
 use crate::stream::{PeerStream, Visit};
@@ -69,6 +70,8 @@ pub struct SourcePeer {
     answered: u64,
     /// Where its first request waits, if it does.
     place: Option<WaitingPlace>,
+    /// How far it has come, where the relay was asked to stop.
+    leave: LeaveStage,
 }
 
 impl Model for SourcePeer {
@@ -164,6 +167,7 @@ impl SourcePeer {
             given: 0,
             answered: 0,
             place: None,
+            leave: LeaveStage::Stays,
         }
     }
 
@@ -243,6 +247,19 @@ impl SourcePeer {
                 Piece::Closed => self.linger(SourceFault::Closed),
             },
             Err(_) => self.starve(),
+        }
+    }
+
+    /// Takes in bytes, if it is open, at a moment (milliseconds), that its stream keeps: they were
+    /// looked at there, and not read.
+    pub fn hear_ahead(&mut self, alloc: Global, bytes: &[u8], now: u64)
+        ensures taken { self.old.stage ≡ PeerState.Open → peers.TakesIn self.old
+            bytes.now self.new.live self.new.stage self.new.why }
+        ensures closed { self.old.stage ≢ PeerState.Open → self.new ≡ self.old }
+        ensures calls { (self.new.reads ≡ self.old.reads) × (self.new.writes ≡ self.old.writes) }
+    {
+        if self.stage == PeerState::Open {
+            self.take_in(alloc, bytes, now);
         }
     }
 
@@ -359,6 +376,26 @@ impl SourcePeer {
         ensures { self.new ≡ self.old }
     {
         self.place = place;
+    }
+
+    /// How far it has come, where the relay was asked to stop.
+    pub fn leave_stage(&self) -> LeaveStage {
+        self.leave
+    }
+
+    /// It has come so far from now on.
+    pub fn leave_by(&mut self, stage: LeaveStage)
+        ensures { self.new ≡ self.old }
+    {
+        self.leave = stage;
+    }
+
+    /// Whether the relay owes it nothing: no acknowledgement is promised, no byte waits to be sent
+    /// to it, and no request of it waits to be admitted.
+    pub fn is_owed_nothing(&self) -> bool
+        ensures { result ≡ peers.is_owed_nothing self.now }
+    {
+        self.promised == 0 && self.source.out().is_empty() && self.source.waiting() == 0
     }
 
     /// How many requests wait to be admitted.

@@ -1,6 +1,6 @@
 -- What stands written once a run's output was flushed.
 use Rattle.std.proofs.Common.{◌≡◌, ℕ, List, Option, Result, Ok, Err, inl, inr, sym, subst}
-use Rattle.std.specs.Prelude.{OnOk, IfErr}
+use Rattle.std.specs.Prelude.{OnOk, IfErr, MatchResult}
 use Rattle.std.specs.Io.KnownBytes.{Keeps}
 use Rattle.std.proofs.KnownBytes.{Keeps-trans, Appends-kept}
 use Rattle.fwd_monitor.specs.Page.{page_of}
@@ -9,7 +9,8 @@ use Rattle.fwd_script.specs.declared.status.Status.TheVariants.{Done, BadSetting
 use Rattle.fwd_script.specs.declared.writing.WriteFailed.{WriteFailed}
 use Rattle.fwd_script.proofs.ReplayLemmas.{AppendsFront-all}
 use Rattle.fwd_program.specs.Ends.{Runs}
-use Rattle.fwd_program.specs.declared.ending.RunEnd.TheVariants.{Ran}
+use Rattle.fwd_program.specs.declared.ending.RunEnd.{RunEnd}
+use Rattle.fwd_program.specs.declared.ending.RunEnd.TheVariants.{Ran, Left}
 
 -- what a run wrote still stands after what writes nothing more
 kept : (status : Status) (text : List ℕ) (old mid new : Option (List ℕ))
@@ -31,6 +32,17 @@ front (BadLine n) failed text old new wrote = absurd wrote
 front Memory failed text old new wrote = inl wrote
 front (Input other) failed text old new wrote = absurd wrote
 front (Output other) failed text old new wrote = wrote
+
+-- what a run wrote that left entries, behind a flush
+pub left_runs : {T : Type 0} (r : Result T WriteFailed) (entries : ℕ) (result : RunEnd)
+    (text : List ℕ) (old mid new : Option (List ℕ))
+    → MatchResult r (λ _. result ≡ Left entries) (λ failed. result ≡ Ran (Output failed))
+    → Runs (Left entries) text old mid → Keeps mid new → Runs result text old new
+left_runs (Ok x) entries result text old mid new is wrote k =
+    subst (λ e. Runs e text old new) (sym is) (kept Done text old mid new wrote k)
+left_runs (Err failed) entries result text old mid new is wrote k =
+    subst (λ e. Runs e text old new) (sym is)
+    (kept (Output failed) text old mid new (front Done failed text old mid wrote) k)
 
 -- what a run wrote, behind a flush that tells a failure of its own
 pub flushed_runs : {T : Type 0} (r : Result T WriteFailed) (status result : Status)

@@ -10,7 +10,9 @@ use Rattle.fwd_script.specs.Statuses.{refused_status}
 use Rattle.fwd_script.specs.declared.status.Status.TheVariants.{Done}
 use Rattle.fwd_loop.specs.declared.fault.StartFault.{StartFault}
 use Rattle.fwd_loop.specs.declared.fault.StartFault.TheVariants as starts
-use Rattle.fwd_program.specs.Ends.{Found, Runs, ended_by}
+use Rattle.fwd_loop.specs.declared.draining.Ending.{Ending}
+use Rattle.fwd_loop.specs.declared.draining.Ending.TheVariants as endings
+use Rattle.fwd_program.specs.Ends.{Found, Runs, ended_as, ended_by}
 use Rattle.fwd_program.specs.declared.ending.RunEnd.{RunEnd}
 use Rattle.fwd_program.specs.declared.ending.RunEnd.TheVariants.{Ran}
 
@@ -49,15 +51,24 @@ pub start_runs : (text : List ℕ) (s : Settings) (fault : StartFault) (end : Ru
     → Runs end text known known
 start_runs text s starts.Memory end known good e = rw e (Keeps-refl known)
 start_runs text s (starts.Listen address) end known good e = rw e (s, good, Keeps-refl known)
+start_runs text s (starts.Control path) end known good e = rw e (s, good, Keeps-refl known)
 start_runs text s starts.Poll end known good e = rw e (s, good, Keeps-refl known)
 start_runs text s starts.Seed end known good e = rw e (s, good, Keeps-refl known)
 start_runs text s starts.Thread end known good e = rw e (s, good, Keeps-refl known)
 
 -- ---- how a run ended, by what came of it
 
-pub ended_runs : {T : Type 0} (ran : Result T RunEnd) (end : RunEnd) (text : List ℕ)
-    (old new : Option (List ℕ)) → MatchResult ran (λ _. end ≡ Ran Done) (λ e. end ≡ e)
+-- a run that came to its end wrote its page, whichever end that was
+as_ended : (ending : Ending) (text : List ℕ) (old new : Option (List ℕ))
+    → Runs (Ran Done) text old new → Runs (ended_as ending) text old new
+as_ended endings.Turns text old new runs = runs
+as_ended endings.Delivered text old new runs = runs
+as_ended (endings.Left entries) text old new runs = runs
+
+pub ended_runs : (ran : Result Ending RunEnd) (end : RunEnd) (text : List ℕ)
+    (old new : Option (List ℕ)) → MatchResult ran (λ ending. end ≡ ended_as ending) (λ e. end ≡ e)
     → MatchResult ran (λ _. Runs (Ran Done) text old new) (λ e. Runs e text old new)
     → Runs end text old new
-ended_runs (Ok x) end text old new is runs = subst (λ e. Runs e text old new) (sym is) runs
+ended_runs (Ok ending) end text old new is runs =
+    subst (λ e. Runs e text old new) (sym is) (as_ended ending text old new runs)
 ended_runs (Err e) end text old new is runs = subst (λ e'. Runs e' text old new) (sym is) runs

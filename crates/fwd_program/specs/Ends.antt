@@ -14,12 +14,21 @@ use Rattle.fwd_loop.specs.declared.fault.StartFault.{StartFault}
 use Rattle.fwd_loop.specs.declared.fault.StartFault.TheVariants as starts
 use Rattle.fwd_loop.specs.Ends.{AddUp}
 use Rattle.fwd_program.specs.declared.ending.RunEnd.{RunEnd}
-use Rattle.fwd_program.specs.declared.ending.RunEnd.TheVariants.{Ran, Start}
+use Rattle.fwd_program.specs.declared.ending.RunEnd.TheVariants.{Ran, Start, Left}
+use Rattle.fwd_loop.specs.declared.draining.Ending.{Ending}
+use Rattle.fwd_loop.specs.declared.draining.Ending.TheVariants as endings
 
--- the exit status: that of a check or a replay that ends so, and 4 where the relay could not start
+-- the exit status: that of a check or a replay that ends so, 4 where the relay could not start, and
+-- 6 where it was asked to stop and entries are left
 abbrev pub run_code : RunEnd → ℕ
 run_code (Ran status) = exit_code status
 run_code (Start fault) = 4
+run_code (Left entries) = 6
+
+-- how a run ends that came to its end so
+abbrev pub ended_as : Ending → RunEnd
+ended_as (endings.Left entries) = Left entries
+ended_as ending = Ran statuses.Done
 
 -- how a run ends whose relay could not start: out of memory is told as such
 abbrev pub ended_by : StartFault → RunEnd
@@ -36,9 +45,9 @@ Found found text =
 abbrev pub ReportsFor : Settings → List Report → Type 0
 ReportsFor settings reports = (length reports ≡ length settings.outputs) × AddUp reports
 
--- How a run by the settings in a text ended, and what it wrote: all of the page of its reports, and
--- where a write or a flush failed a front of it, or nothing. Only a text that was not read is
--- unreadable. It has no script to end at.
+-- How a run by the settings in a text ended, and what it wrote: all of the page of its reports,
+-- also where entries are left, and where a write or a flush failed a front of it, or nothing. Only
+-- a text that was not read is unreadable. It has no script to end at.
 abbrev pub Runs : RunEnd → List ℕ → Option (List ℕ) → Option (List ℕ) → Type 0
 Runs (Ran statuses.Done) text old new =
     (s : Settings) × (settings_of text ≡ Ok s) × (reports : List Report) × ReportsFor s reports
@@ -51,4 +60,7 @@ Runs (Ran (statuses.Input failed)) text old new = ⊥
 Runs (Ran (statuses.Output failed)) text old new =
     Keeps old new ⊎ ((s : Settings) × (settings_of text ≡ Ok s) × (reports : List Report)
     × ReportsFor s reports × AppendsFront old new (page_of reports))
+Runs (Left entries) text old new =
+    (s : Settings) × (settings_of text ≡ Ok s) × (reports : List Report) × ReportsFor s reports
+    × Appends old new (page_of reports)
 Runs (Start fault) text old new = (s : Settings) × (settings_of text ≡ Ok s) × Keeps old new

@@ -8,7 +8,7 @@ use crate::file::SettingsFile;
 use crate::key_lines::{line_at, line_of, value_at};
 use crate::key_tables::{allowed_in, kind_of, parent_of, table_having};
 use crate::saying::say;
-use fwd_loop::StartFault;
+use fwd_loop::{ControlPath, Ending, StartFault};
 use fwd_match::{Pattern, PatternFault};
 use fwd_settings::SettingsFault;
 use fwd_settings::ranges::SERVERS_MAX;
@@ -16,7 +16,9 @@ use fwd_settings::tables::Allowed;
 use std::alloc::Global;
 use std::io::Write;
 use std::net::{Net, SocketAddr, TcpListener};
-use std::{fmt, io};
+use std::os::unix::net::UnixListener;
+use std::rt::Files;
+use std::{fmt, fs, io};
 use toml::{Table, de};
 
 /// Why settings are refused.
@@ -129,6 +131,20 @@ impl fmt::Display for Unheard {
     }
 }
 
+/// A control socket that cannot be had, and what the system says of it.
+#[derive(Drop)]
+struct NoControl {
+    path: ControlPath,
+    error: io::Error,
+}
+
+impl fmt::Display for NoControl {
+    fn fmt<W: fmt::Write>(&self, f: &mut fmt::Formatter<W>) -> fmt::Result {
+        let NoControl { path, error } = self;
+        write!(f, "listen: {path}: {error}")
+    }
+}
+
 /// Why the value under a key is out of its range.
 fn out_of_range<'a>(root: &Table, key: &'a str) -> Why<'a> {
     let (table, name) = kind_of(key);
@@ -229,12 +245,32 @@ pub(crate) fn say_refused<E: Write>(
     }
 }
 
-/// Says why an address could not be listened at, if a run ended with that.
-pub(crate) fn say_unheard<R: Net, E: Write>(rt: &R, ran: &Result<(), RunEnd>, errors: &mut E) {
-    if let Err(RunEnd::Start(StartFault::Listen(address))) = ran {
-        let address = *address;
-        if let Err(error) = TcpListener::bind(rt, address) {
-            say(errors, &Unheard { address, error });
+/// Says why an address could not be listened at, or a control socket not be had, if a run ended
+/// with that.
+pub(crate) fn say_unheard<R: Net + Files, E: Write>(
+    rt: &R,
+    ran: &Result<Ending, RunEnd>,
+    errors: &mut E,
+) {
+    match ran {
+        Err(RunEnd::Start(StartFault::Listen(address))) => {
+            let address = *address;
+            if let Err(error) = TcpListener::bind(rt, address) {
+                say(errors, &Unheard { address, error });
+            }
         }
+        Err(RunEnd::Start(StartFault::Control(path))) => say_no_control(rt, *path, errors),
+        _ => {}
+    }
+}
+
+/// Says why a control socket cannot be had at a path: where another relay has it, or it is no
+/// socket, that the path is in use.
+fn say_no_control<R: Net + Files, E: Write>(rt: &R, path: ControlPath, errors: &mut E) {
+    match UnixListener::bind(rt, path.as_str()) {
+        Ok(_) => {
+            let _ = fs::remove_file(rt, path.as_str());
+        }
+        Err(error) => say(errors, &NoControl { path, error }),
     }
 }

@@ -19,16 +19,19 @@ pub enum RunEnd {
     Ran(Status),
     /// The relay could not start, or not go on.
     Start(StartFault),
+    /// It was asked to stop, and when its time was over so many entries were left.
+    Left(u64),
 }
 
 impl RunEnd {
-    /// The exit status: 4 where the relay could not start.
+    /// The exit status: 4 where the relay could not start, and 6 where entries are left.
     pub fn exit_code(&self) -> u8
         ensures { result ≡ run_code self.now }
     {
         match self {
             RunEnd::Ran(status) => status.exit_code(),
             RunEnd::Start(_) => 4,
+            RunEnd::Left(_) => 6,
         }
     }
 }
@@ -82,6 +85,7 @@ impl fmt::Display for RunEnd {
         match self {
             RunEnd::Ran(status) => write!(f, "{status}"),
             RunEnd::Start(fault) => write!(f, "{fault}"),
+            RunEnd::Left(entries) => write!(f, "left {entries} entries"),
         }
     }
 }

@@ -5,7 +5,7 @@ use crate::journal_line::{JournalLine, Subject};
 use crate::line_limits::{LeftOut, LineLimits};
 use crate::version::VERSION;
 use arrayvec::ArrayString;
-use fwd_loop::{JournalEvent, Observer};
+use fwd_loop::{Ending, JournalEvent, Observer};
 use jiff::Timestamp;
 use std::env::Env;
 use std::fmt::Write as _;
@@ -136,7 +136,7 @@ impl<'a, R: Clock, E: Write> Journal<'a, R, E> {
     }
 
     /// Says why it runs no more, if it was said that it does.
-    pub fn end(&mut self, ran: &Result<(), RunEnd>) {
+    pub fn end(&mut self, ran: &Result<Ending, RunEnd>) {
         if self.is_begun {
             self.look();
             self.say(&Stopped { ran }, 1);
@@ -187,13 +187,15 @@ impl fmt::Display for Begun<'_> {
 /// Why it runs no more.
 #[derive(Clone, Copy)]
 struct Stopped<'a> {
-    ran: &'a Result<(), RunEnd>,
+    ran: &'a Result<Ending, RunEnd>,
 }
 
 impl fmt::Display for Stopped<'_> {
     fn fmt<W: fmt::Write>(&self, f: &mut fmt::Formatter<W>) -> fmt::Result {
         match self.ran {
-            Ok(()) => f.write_str("stopped: all turns are made"),
+            Ok(Ending::Turns) => f.write_str("stopped: all turns are made"),
+            Ok(Ending::Delivered) => f.write_str("stopped: all is delivered"),
+            Ok(Ending::Left(entries)) => write!(f, "stopped: {entries} entries are left"),
             Err(end) => write!(f, "stopped: {end}"),
         }
     }

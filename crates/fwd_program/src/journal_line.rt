@@ -20,14 +20,15 @@ pub enum LineKind {
     ChunkRefused = 9,
     OutputFull = 10,
     LeftOut = 11,
+    Stopping = 12,
 }
 
 impl LineKind {
     /// How many kinds there are.
-    pub const COUNT: usize = 12;
+    pub const COUNT: usize = 13;
 
     /// Each kind once.
-    pub const ALL: [LineKind; 12] = [
+    pub const ALL: [LineKind; 13] = [
         LineKind::Listening,
         LineKind::SourceClosed,
         LineKind::ServerLost,
@@ -40,6 +41,7 @@ impl LineKind {
         LineKind::ChunkRefused,
         LineKind::OutputFull,
         LineKind::LeftOut,
+        LineKind::Stopping,
     ];
 
     /// The kind of an event.
@@ -58,6 +60,7 @@ impl LineKind {
             JournalEvent::ChunkRefused { .. } => LineKind::ChunkRefused,
             JournalEvent::Full { .. } | JournalEvent::Room { .. } => LineKind::OutputFull,
             JournalEvent::LeftOut(_) => LineKind::LeftOut,
+            JournalEvent::Stopping { .. } => LineKind::Stopping,
         }
     }
 }
@@ -78,6 +81,7 @@ impl fmt::Display for LineKind {
             LineKind::ChunkRefused => "chunk refused",
             LineKind::OutputFull => "output full",
             LineKind::LeftOut => "journal",
+            LineKind::Stopping => "stopping",
         })
     }
 }
@@ -112,7 +116,7 @@ impl Subject {
                 "",
                 Some(*output),
             ),
-            JournalEvent::LeftOut(_) => ("", None),
+            JournalEvent::LeftOut(_) | JournalEvent::Stopping { .. } => ("", None),
         };
         Subject { kind, name, output }
     }
@@ -211,6 +215,7 @@ impl fmt::Display for JournalLine {
             }
             JournalEvent::Room { output } => write!(f, "output {output} has room"),
             JournalEvent::LeftOut(count) => write!(f, "{count} left out"),
+            JournalEvent::Stopping { held } => write!(f, "asked, {held} entries held"),
         }
     }
 }

@@ -1,7 +1,9 @@
-//! The whole program: `forward_relay run CONFIG [TURNS] | check CONFIG | replay`.
+//! The whole program: `forward_relay run CONFIG [TURNS] | stop CONFIG [SECONDS] | check CONFIG |
+//! replay`.
 #![tactic(auto)]
 
 mod asked;
+mod asked_stop;
 mod causes;
 mod cautions;
 mod checking;
@@ -17,6 +19,7 @@ mod line_limits;
 mod program;
 mod running;
 mod saying;
+mod stopping;
 mod unreached;
 mod version;
 
@@ -26,4 +29,5 @@ pub use errors::Errors;
 pub use journal::{Journal, Log, asked_log};
 pub use program::{Invocation, run_all};
 pub use running::run_file;
+pub use stopping::Progress;
 pub use version::VERSION;

@@ -1,20 +1,24 @@
 //! The program over its words and streams.
 
-ghost use Rattle.std.specs.Prelude.{◌≡◌, ◌≢◌, ℕ, List, map, IfOk, IfErr};
+ghost use Rattle.std.specs.Prelude.{◌≡◌, ◌≢◌, ℕ, List, Option, map, IfOk, IfErr};
 ghost use Rattle.std.specs.String.{string_bytes};
 ghost use Rattle.std.specs.IoError.{error_kind};
 ghost use Rattle.std.specs.Io.KnownBytes.{Keeps};
 ghost use Rattle.fwd_script.specs.declared.program.End.{End};
 ghost use Rattle.fwd_script.specs.Program.{Performs, end_code, words_behind};
-ghost use Rattle.fwd_program.specs.Asked.{AsksRun};
+ghost use Rattle.fwd_program.specs.Asked.{AsksRun, AsksStop};
 ghost use Rattle.fwd_program.specs.Ends.{Runs, run_code};
 ghost use Rattle.fwd_program.specs.declared.ending.RunEnd.{RunEnd as TheEnd};
+ghost use Rattle.fwd_program.specs.declared.stopping.StopEnd.{StopEnd as TheStop};
+ghost use Rattle.fwd_program.specs.Stops.{stop_code};
 
 use crate::asked::asked_run;
+use crate::asked_stop::{StopCall, asked_stop};
 use crate::checking::check_said;
 use crate::ending::RunEnd;
 use crate::journal::Log;
 use crate::running::run_file;
+use crate::stopping::{Progress, StopEnd, stop_relay};
 use fwd_loop::Platform;
 use fwd_script::{Command, End, Status, asked, run_program, tell as tell_end};
 use std::io;
@@ -32,7 +36,25 @@ fn tell<E: Write>(errors: &mut E, end: &RunEnd) -> io::Result<()> {
     }
 }
 
-/// Does what words ask for that ask for no run, and returns the exit status.
+/// Has a relay stop, tells how that ended, on a line of its own, and returns the exit status.
+fn do_stop<R: Net + Files + AllocGlobal, W: Write, E: Write>(
+    rt: &R,
+    call: StopCall<'_>,
+    progress: Progress,
+    output: &mut W,
+    errors: &mut E,
+) -> u8
+    ensures { (end : TheStop) × (result ≡ stop_code end) }
+{
+    let end = stop_relay(rt, call, progress, output, errors);
+    let _told = match &end {
+        StopEnd::Ran(Status::Done) => Ok(()),
+        end => writeln!(errors, "{end}"),
+    };
+    end.exit_code()
+}
+
+/// Does what words ask for that ask for no run and no stop, and returns the exit status.
 fn do_other<R: Files + AllocGlobal, I: Read, W: Write, E: Write>(
     rt: &R,
     words: Vec<String>,
@@ -60,6 +82,31 @@ fn do_other<R: Files + AllocGlobal, I: Read, W: Write, E: Write>(
 pub struct Invocation {
     pub words: Vec<String>,
     pub log: Log,
+    /// How what a relay answers is shown that is asked to stop.
+    pub progress: Progress,
+}
+
+/// Does what words ask for that ask for no run, and returns the exit status.
+fn do_rest<R: Net + Files + AllocGlobal, I: Read, W: Write, E: Write>(
+    rt: &R,
+    call: Invocation,
+    input: &mut I,
+    output: &mut W,
+    errors: &mut E,
+) -> u8
+    ensures stop { (path : List ℕ) (seconds : Option ℕ)
+        → AsksStop (words_behind (map string_bytes call.words.items)) path seconds
+        → (end : TheStop) × (result ≡ stop_code end) }
+    ensures other { ((path : List ℕ) (seconds : Option ℕ)
+        → ¬ AsksStop (words_behind (map string_bytes call.words.items)) path seconds)
+        → (end : End) × (result ≡ end_code end)
+        × Performs (words_behind (map string_bytes call.words.items))
+        end (I.remaining input.old) (W.contents output.old) (W.contents output.new) }
+{
+    match asked_stop(call.words.as_slice()) {
+        Some(stop) => do_stop(rt, stop, call.progress, output, errors),
+        None => do_other(rt, call.words, input, output, errors),
+    }
 }
 
 /// Does what words ask for, and returns the exit status.
@@ -74,8 +121,15 @@ fn run_words<R: Platform + Files, I: Read, W: Write, E: Write>(
         → AsksRun (words_behind (map string_bytes call.words.items)) path turns
         → (end : TheEnd) × (result ≡ run_code end) × (text : List ℕ)
         × Runs end text (W.contents output.old) (W.contents output.new) }
+    ensures stop { ((path : List ℕ) (turns : ℕ)
+        → ¬ AsksRun (words_behind (map string_bytes call.words.items)) path turns)
+        → (path : List ℕ) (seconds : Option ℕ)
+        → AsksStop (words_behind (map string_bytes call.words.items)) path seconds
+        → (end : TheStop) × (result ≡ stop_code end) }
     ensures other { ((path : List ℕ) (turns : ℕ)
         → ¬ AsksRun (words_behind (map string_bytes call.words.items)) path turns)
+        → ((path : List ℕ) (seconds : Option ℕ)
+        → ¬ AsksStop (words_behind (map string_bytes call.words.items)) path seconds)
         → (end : End) × (result ≡ end_code end)
         × Performs (words_behind (map string_bytes call.words.items))
         end (I.remaining input.old) (W.contents output.old) (W.contents output.new) }
@@ -86,12 +140,13 @@ fn run_words<R: Platform + Files, I: Read, W: Write, E: Write>(
             let _told = tell(errors, &end);
             end.exit_code()
         }
-        None => do_other(rt, call.words, input, output, errors),
+        None => do_rest(rt, call, input, output, errors),
     }
 }
 
 /// The whole program, but for where its words and streams come from: where the words ask for a run
-/// it runs, as `run_file` does, and tells how that ended; all other words it answers as
+/// it runs, as `run_file` does, and tells how that ended; where they ask that a relay stops it asks
+/// that relay, and shows and tells what comes of it; all other words it answers as
 /// `fwd_script::run_program` does, and says of a check why the settings are refused, or what is
 /// foolish in them. It returns the exit status. An end that cannot be told has the same exit
 /// status.
@@ -114,9 +169,17 @@ pub fn run_all<
         → AsksRun (words_behind (map string_bytes call.words.items)) path turns
         → (end : TheEnd) × (result ≡ run_code end) × (text : List ℕ)
         × Runs end text (W.contents output.old) (W.contents output.new)) }
+    ensures stop { IfOk call (λ call.
+        ((path : List ℕ) (turns : ℕ)
+        → ¬ AsksRun (words_behind (map string_bytes call.words.items)) path turns)
+        → (path : List ℕ) (seconds : Option ℕ)
+        → AsksStop (words_behind (map string_bytes call.words.items)) path seconds
+        → (end : TheStop) × (result ≡ stop_code end)) }
     ensures asked { IfOk call (λ call.
         ((path : List ℕ) (turns : ℕ)
         → ¬ AsksRun (words_behind (map string_bytes call.words.items)) path turns)
+        → ((path : List ℕ) (seconds : Option ℕ)
+        → ¬ AsksStop (words_behind (map string_bytes call.words.items)) path seconds)
         → (end : End) × (result ≡ end_code end)
         × Performs (words_behind (map string_bytes call.words.items))
         end (I.remaining input.old) (W.contents output.old) (W.contents output.new)) }

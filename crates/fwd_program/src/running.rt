@@ -4,7 +4,7 @@ ghost use Rattle.std.specs.Prelude.{◌≡◌, ℕ, List, true, Err, IfOk, IfErr
 ghost use Rattle.fwd_settings.specs.Ranges.{in_range};
 ghost use Rattle.fwd_script.specs.Statuses.{refused_status};
 ghost use Rattle.fwd_script.specs.declared.status.Status.TheVariants as statuses;
-ghost use Rattle.fwd_program.specs.Ends.{Found, Runs};
+ghost use Rattle.fwd_program.specs.Ends.{Found, Runs, ended_as};
 ghost use Rattle.fwd_program.specs.declared.ending.RunEnd.TheVariants as ends;
 
 use crate::asked::Run;
@@ -13,9 +13,9 @@ use crate::cautions::say_of_relay;
 use crate::ending::RunEnd;
 use crate::file::SettingsFile;
 use crate::journal::{Journal, Log};
-use fwd_loop::{Loop, Observer, Platform};
+use fwd_loop::{Ending, Loop, Observer, Platform};
 use fwd_monitor::page;
-use fwd_script::{Status, flush, write_all};
+use fwd_script::{Status, WriteFailed, flush, write_all};
 use fwd_settings::{Settings, SettingsFault};
 use std::io::Write;
 use std::rt::Files;
@@ -39,14 +39,14 @@ fn settings_at<R: Files + AllocGlobal, E: Write>(
 }
 
 /// Runs by the settings that were found, under an observer, and writes the page of the last
-/// reports: nothing else is written before.
+/// reports: nothing else is written before. It answers why the run ended.
 fn run_found<R: Platform + Files, V: Observer, W: Write>(
     rt: &R,
     found: Result<Settings, SettingsFault>,
     turns: u64,
     observer: &mut V,
     output: &mut W,
-) -> Result<(), RunEnd>
+) -> Result<Ending, RunEnd>
     requires { IfOk found (λ settings. in_range settings ≡ true) }
     ensures refused { IfErr found (λ fault. result ≡ Err (ends.Ran (refused_status fault))) }
     ensures runs { (text : List ℕ) → Found found text → MatchResult result
@@ -55,9 +55,10 @@ fn run_found<R: Platform + Files, V: Observer, W: Write>(
 {
     let settings = found?;
     let relay = Loop::new(rt, settings)?;
-    let reports = relay.run_watched(rt, observer, turns)?;
-    let text = page(rt.alloc(), &reports)?;
-    Ok(write_all(output, text.as_bytes())?)
+    let outcome = relay.run_to_end(rt, observer, turns)?;
+    let text = page(rt.alloc(), &outcome.reports)?;
+    write_all(output, text.as_bytes())?;
+    Ok(outcome.ending)
 }
 
 /// The same, under a journal where the log asks for one, which begins with what runs and ends with
@@ -68,7 +69,7 @@ fn run_told<R: Platform + Files, W: Write, E: Write>(
     run: Run<'_>,
     output: &mut W,
     errors: &mut E,
-) -> Result<(), RunEnd>
+) -> Result<Ending, RunEnd>
     requires { IfOk found (λ settings. in_range settings ≡ true) }
     ensures { (text : List ℕ) → Found found text → MatchResult result
         (λ _. Runs (ends.Ran statuses.Done) text (W.contents output.old) (W.contents output.new))
@@ -90,12 +91,25 @@ fn run_told<R: Platform + Files, W: Write, E: Write>(
 }
 
 /// How a run ended, by what came of it.
-fn ended(ran: Result<(), RunEnd>) -> RunEnd
-    ensures { MatchResult ran (λ _. result ≡ ends.Ran statuses.Done) (λ end. result ≡ end) }
+fn ended(ran: Result<Ending, RunEnd>) -> RunEnd
+    ensures { MatchResult ran (λ ending. result ≡ ended_as ending) (λ end. result ≡ end) }
 {
     match ran {
-        Ok(()) => RunEnd::Ran(Status::Done),
+        Ok(Ending::Left(entries)) => RunEnd::Left(entries),
+        Ok(_) => RunEnd::Ran(Status::Done),
         Err(end) => end,
+    }
+}
+
+/// How a run ended that left so many entries, by what came of flushing its output.
+fn left_flushed(entries: u64, flush: Result<(), WriteFailed>) -> RunEnd
+    ensures { MatchResult flush
+        (λ _. result ≡ ends.Left entries)
+        (λ failed. result ≡ ends.Ran (statuses.Output failed)) }
+{
+    match flush {
+        Ok(()) => RunEnd::Left(entries),
+        Err(failed) => RunEnd::Ran(Status::Output(failed)),
     }
 }
 
@@ -118,10 +132,11 @@ fn run_logged<R: Platform + Files, W: Write, E: Write>(
 
 /// Runs a relay by the settings in a file, and writes the monitor's page of the last reports, one
 /// of each output. A file that cannot be read is `Ran(BadSettings(Unreadable))`, and so are refused
-/// settings with their own fault; a failed write or flush is `Ran(Output)`, and behind it nothing
+/// settings with their own fault; where the relay was asked to stop and entries are left it is
+/// `Left`, and the page is written; a failed write or flush is `Ran(Output)`, and behind it nothing
 /// was written or a front of the page; out of memory is `Ran(Memory)`. Behind all other ends but
-/// `Done` nothing was written. The errors say why settings or an address are refused and, where the
-/// log asks for it, what the run comes to.
+/// `Done` and `Left` nothing was written. The errors say why settings or an address are refused
+/// and, where the log asks for it, what the run comes to.
 pub fn run_file<R: Platform + Files, W: Write, E: Write>(
     rt: &R,
     run: Run<'_>,
@@ -133,6 +148,7 @@ pub fn run_file<R: Platform + Files, W: Write, E: Write>(
 {
     match run_logged(rt, run, output, errors) {
         RunEnd::Ran(status) => RunEnd::Ran(status.flushed(flush(output))),
+        RunEnd::Left(entries) => left_flushed(entries, flush(output)),
         end => end,
     }
 }

@@ -7,6 +7,7 @@ ghost use Rattle.fwd_routing.specs.Lateness.{IsLate, is_late, is_unknown, limit_
 ghost use Rattle.fwd_routing.specs.OpenConnections.{longer_idle, source_with, sources_in};
 ghost use Rattle.fwd_routing.specs.Tellings.{AreTold, IsToldAt, IsToldOf};
 
+use crate::crowder::Crowder;
 use crate::deadlines::{Deadlines, Unidentified};
 use crate::monitor_peer::MonitorPeer;
 use fwd_book::Receipt;
@@ -150,27 +151,6 @@ impl OpenConnection {
     }
 }
 
-/// A source that waits and may give its place to a new one.
-#[derive(Clone, Copy)]
-struct Crowder {
-    key: usize,
-    /// It asked for an acknowledgement, and sends again.
-    asks: bool,
-    /// Since when it waits, in milliseconds.
-    since: u64,
-}
-
-impl Crowder {
-    /// Whether it gives its place before another one that waits.
-    fn goes_before(&self, other: &Crowder) -> bool {
-        match (self.asks, other.asks) {
-            (true, true) => self.since <= other.since,
-            (false, false) => self.since >= other.since,
-            (asks, _) => asks,
-        }
-    }
-}
-
 /// A source that is idle.
 #[derive(Clone, Copy)]
 struct Idle {
@@ -255,6 +235,16 @@ impl Connections {
     /// How many of these wait at outputs.
     pub fn crowding(&self) -> usize {
         self.crowding
+    }
+
+    /// How many sources stand, whether they take a place or not.
+    pub fn standing(&self) -> usize {
+        self.sources.len()
+    }
+
+    /// No connection has this key or a greater one.
+    pub fn key_limit(&self) -> usize {
+        self.opened.capacity()
     }
 
     /// How many monitors stand.
@@ -396,8 +386,7 @@ impl Connections {
         }
     }
 
-    /// A source's requests wait from a moment on (milliseconds) until others are answered, or
-    /// settled.
+    /// A source's requests wait from a moment (milliseconds) until others are answered or settled.
     pub fn note_held(&mut self, key: usize, now: u64) {
         let Some(opened) = self.opened.get_mut(key) else {
             return;

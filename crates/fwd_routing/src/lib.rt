@@ -8,6 +8,7 @@
 
 mod connections;
 mod counting;
+mod crowder;
 mod deadlines;
 mod flush_timer;
 mod hearers;

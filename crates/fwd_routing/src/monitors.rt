@@ -38,14 +38,15 @@ impl Connections {
     }
 
     /// What is known of the relay at a moment (milliseconds since it started), where so many
-    /// sources are connected beside those that stand here, and so many may be. When it started is
-    /// not known here.
+    /// sources are connected beside those that stand here, and so many may be. When it started and
+    /// whether it was asked to stop is not known here.
     pub fn figures(&self, others: usize, limit: usize, now: u64) -> Figures {
         Figures {
             start: None,
             uptime: now,
             sources: self.sources().saturating_add(others) as u64,
             source_limit: limit as u64,
+            is_draining: false,
         }
     }
 

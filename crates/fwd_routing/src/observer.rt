@@ -101,6 +101,10 @@ pub enum JournalEvent {
     Descriptors(ListenerKind),
     /// So many events of readers beside the first are not told.
     LeftOut(u64),
+    /// It was asked to stop, and holds so many entries.
+    Stopping {
+        held: u64,
+    },
 }
 
 impl JournalEvent {

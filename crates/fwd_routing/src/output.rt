@@ -82,8 +82,8 @@ fn age_at(now: u64, since: Option<u64>) -> u64
 }
 
 /// The most bytes of entries that each output holds, how old its oldest chunk is at a moment
-/// (milliseconds), and what waits there, in their order. Each is locked by itself for a moment. The only error is out of
-/// memory.
+/// (milliseconds), and what waits there, in their order. Each is locked by itself for a moment. The
+/// only error is out of memory.
 pub(crate) fn figures_of<R: Wait>(
     rt: &R,
     alloc: Global,

@@ -19,6 +19,7 @@ const NOTHING: Figures = Figures {
     uptime: 0,
     sources: 0,
     source_limit: 0,
+    is_draining: false,
 };
 
 /// What is asked of the thread that makes pages, and what it made.

@@ -336,25 +336,26 @@ impl<'a> Router<'a> {
         wait
     }
 
-    /// Closes the chunks that are due at a moment (milliseconds) after all admissions; and all of an
-    /// output at which sources wait for room, where a worker could send them.
-    pub fn flush<R: Wait>(&mut self, rt: &R, now: u64)
+    /// Closes the chunks that are due at a moment (milliseconds) after all admissions; and all of
+    /// an output at which sources wait for room, or of each where the relay drains, where a worker
+    /// could send them.
+    pub fn flush<R: Wait>(&mut self, rt: &R, now: u64, is_draining: bool)
         ensures { self.new.routes ≡ self.old.routes }
     {
         for place in 0..self.all.len() {
-            self.flush_at(rt, place, now);
+            self.flush_at(rt, place, now, is_draining);
         }
     }
 
     /// Closes those of the output at a place.
-    fn flush_at<R: Wait>(&mut self, rt: &R, place: usize, now: u64)
+    fn flush_at<R: Wait>(&mut self, rt: &R, place: usize, now: u64, is_draining: bool)
         ensures { self.new.routes ≡ self.old.routes }
     {
         let is_crowded = self.is_crowded(place);
         let Some(output_route) = self.all.get_mut(place) else {
             return;
         };
-        output_route.flush(rt, now, is_crowded);
+        output_route.flush(rt, now, is_crowded | is_draining);
     }
 
     /// Whether sources wait for room at the output at a place.

@@ -31,7 +31,7 @@ end_code (Ran status) = exit_code status
 
 -- what is told on standard error, without its line feed
 abbrev pub end_text : End → List ℕ
-end_text Usage = codes "usage: forward_relay run CONFIG [TURNS] | check CONFIG | replay"
+end_text Usage = codes "usage: forward_relay run CONFIG [TURNS] | stop CONFIG [SECONDS] | check CONFIG | replay"
 end_text (Ran status) = status_text status
 
 -- what is told on standard error: nothing where all is done

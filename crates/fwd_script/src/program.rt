@@ -56,7 +56,7 @@ impl fmt::Display for End {
         match self {
             End::Usage => write!(
                 f,
-                "usage: forward_relay run CONFIG [TURNS] | check CONFIG | replay"
+                "usage: forward_relay run CONFIG [TURNS] | stop CONFIG [SECONDS] | check CONFIG | replay"
             ),
             End::Ran(status) => write!(f, "{status}"),
         }

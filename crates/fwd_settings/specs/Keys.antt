@@ -19,7 +19,7 @@ use Rattle.fwd_settings.specs.declared.relay.Intake.{Intake}
 use Rattle.fwd_settings.specs.declared.output.Sizes.{Sizes}
 use Rattle.fwd_settings.specs.declared.output.Waits.{Waits}
 use Rattle.fwd_settings.specs.declared.output.Login.{Login}
-use Rattle.fwd_settings.specs.declared.ranges.TheConstants.{ACK_WAIT_DEFAULT, CHUNK_LIMIT_DEFAULT, CHUNK_LIMIT_MAX, CONNECTIONS_DEFAULT, CONNECTIONS_MAX, DEPTH_DEFAULT, DEPTH_MAX, DEPTH_MIN, FLUSH_INTERVAL_DEFAULT, MESSAGE_LIMIT_DEFAULT, MESSAGE_LIMIT_MAX, MESSAGE_LIMIT_MIN, NAME_MAX, OUTPUTS_MAX, READERS_DEFAULT, READERS_MAX, RETRY_MAX_DEFAULT, RETRY_WAIT_DEFAULT, SERVERS_MAX, SHARED_KEY_MAX, TOTAL_LIMIT_DEFAULT, TOTAL_LIMIT_MAX, WAIT_MAX, WINDOW_DEFAULT, WINDOW_MAX, WORKERS_DEFAULT, WORKERS_MAX}
+use Rattle.fwd_settings.specs.declared.ranges.TheConstants.{ACK_WAIT_DEFAULT, CHUNK_LIMIT_DEFAULT, CHUNK_LIMIT_MAX, CONNECTIONS_DEFAULT, CONNECTIONS_MAX, CONTROL_MAX, DEPTH_DEFAULT, DEPTH_MAX, DEPTH_MIN, FLUSH_INTERVAL_DEFAULT, MESSAGE_LIMIT_DEFAULT, MESSAGE_LIMIT_MAX, MESSAGE_LIMIT_MIN, NAME_MAX, OUTPUTS_MAX, READERS_DEFAULT, READERS_MAX, RETRY_MAX_DEFAULT, RETRY_WAIT_DEFAULT, SERVERS_MAX, SHARED_KEY_MAX, STOP_WAIT_DEFAULT, TOTAL_LIMIT_DEFAULT, TOTAL_LIMIT_MAX, WAIT_MAX, WINDOW_DEFAULT, WINDOW_MAX, WORKERS_DEFAULT, WORKERS_MAX}
 use Rattle.fwd_settings.specs.Addresses.{home}
 use Rattle.fwd_settings.specs.Faults.{own_key, key_under}
 use Rattle.fwd_settings.specs.Kinds.{Key, each, fault_at, setting_at, number_key, optional_number_key, flag_key, when_full_key, text_key, optional_text_key, required_text_key, digits_key, address_key, address_key_or, required_address_key, required_pattern_key, required_list_key, optional_list_key}
@@ -105,13 +105,22 @@ metrics = flag_key (codes "metrics") false
 abbrev pub idle_limit : Key (Option ℕ)
 idle_limit = optional_number_key (codes "idle_limit") 1 WAIT_MAX
 
+-- the path of the socket over which the relay is asked to stop, if there is one: at least 1 byte
+abbrev pub control : Key (Option (List ℕ))
+control = optional_text_key (codes "control") 1 CONTROL_MAX
+
+-- how long the relay has to deliver what it holds once it is asked to stop, in milliseconds
+abbrev pub stop_wait : Key ℕ
+stop_wait = number_key (codes "stop_wait") 1 WAIT_MAX STOP_WAIT_DEFAULT
+
 -- the keys under `relay`
 abbrev pub relay_names : List (List ℕ)
 relay_names =
     codes "listen" ∷ codes "monitor" ∷ codes "hostname" ∷ codes "shared_key"
     ∷ codes "run_id" ∷ codes "seed" ∷
     codes "connections" ∷ codes "message_limit" ∷ codes "depth"
-    ∷ codes "readers" ∷ codes "user" ∷ codes "metrics" ∷ codes "idle_limit" ∷ []
+    ∷ codes "readers" ∷ codes "user" ∷ codes "metrics" ∷ codes "idle_limit"
+    ∷ codes "control" ∷ codes "stop_wait" ∷ []
 
 -- ---- relay.user[i]
 
@@ -176,7 +185,8 @@ relay_table relay =
     fault_at Relay relay listen ∷
     fault_at Relay relay monitor ∷
     (identity_table relay ++ (intake_table relay ++ (users_table relay
-    ++ fault_at Relay relay metrics ∷ fault_at Relay relay idle_limit ∷ [])))
+    ++ fault_at Relay relay metrics ∷ fault_at Relay relay idle_limit
+    ∷ fault_at Relay relay control ∷ fault_at Relay relay stop_wait ∷ [])))
 
 -- who the relay is, by its keys
 abbrev pub relay_identity : Members → Identity
@@ -216,6 +226,8 @@ relay_settings relay = record {
   users = users_in relay;
   metrics = setting_at relay metrics;
   idle_limit = setting_at relay idle_limit;
+  control = setting_at relay control;
+  stop_wait = setting_at relay stop_wait;
 }
 
 -- ---- output[i].server[j]

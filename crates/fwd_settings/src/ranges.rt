@@ -57,6 +57,9 @@ pub const NAME_MAX: usize = 255;
 /// The longest shared key, in bytes.
 pub const SHARED_KEY_MAX: usize = 1_024;
 
+/// The longest path of the control socket, in bytes: the system has no room for more (unix(7)).
+pub const CONTROL_MAX: usize = 107;
+
 /// The most bytes of entries that the settings may allow a chunk.
 pub const CHUNK_LIMIT_MAX: u64 = 16_000_000;
 
@@ -85,6 +88,10 @@ pub const RETRY_MAX_DEFAULT: u64 = 60_000;
 /// How long what a server owes is waited for where the settings do not say, in milliseconds.
 pub const ACK_WAIT_DEFAULT: u64 = 190_000;
 
+/// How long a relay that is asked to stop has to deliver what it holds, where neither the settings
+/// nor who asks say, in milliseconds.
+pub const STOP_WAIT_DEFAULT: u64 = 30_000;
+
 /// The numbers of the ranges: counts, bytes, arrays and maps, and milliseconds.
 pub fn ranges_are()
     ensures outputs { OUTPUTS_MAX ≡ 64 }
@@ -96,10 +103,10 @@ pub fn ranges_are()
         × (MESSAGE_LIMIT_DEFAULT ≡ 16777216) }
     ensures depth { (DEPTH_MIN ≡ 8) × (DEPTH_MAX ≡ 128) × (DEPTH_DEFAULT ≡ 64) }
     ensures readers { (READERS_MAX ≡ 16) × (READERS_DEFAULT ≡ 1) }
-    ensures texts { (NAME_MAX ≡ 255) × (SHARED_KEY_MAX ≡ 1024) }
+    ensures texts { (NAME_MAX ≡ 255) × (SHARED_KEY_MAX ≡ 1024) × (CONTROL_MAX ≡ 107) }
     ensures chunk_limit { (CHUNK_LIMIT_MAX ≡ 16000000) × (CHUNK_LIMIT_DEFAULT ≡ 8000000) }
     ensures total_limit { (TOTAL_LIMIT_MAX ≡ 1000000000000) × (TOTAL_LIMIT_DEFAULT ≡ 512000000) }
     ensures waits { (WAIT_MAX ≡ 86400000) × (FLUSH_INTERVAL_DEFAULT ≡ 5000)
         × (RETRY_WAIT_DEFAULT ≡ 1000) × (RETRY_MAX_DEFAULT ≡ 60000)
-        × (ACK_WAIT_DEFAULT ≡ 190000) }
+        × (ACK_WAIT_DEFAULT ≡ 190000) × (STOP_WAIT_DEFAULT ≡ 30000) }
 {}

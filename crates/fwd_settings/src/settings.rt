@@ -46,6 +46,11 @@ pub struct RelaySettings {
     /// How long a source has to be silent, in milliseconds, 1 to 86,400,000, that gives its place
     /// to a new one where all are taken. Where it is not set none does.
     pub idle_limit: Option<u64>,
+    /// The path of the socket over which the relay is asked to stop, 1 to 107 bytes, if it is.
+    pub control: Option<Text>,
+    /// How long the relay has to deliver what it holds once it is asked to stop, where who asks
+    /// does not say, in milliseconds, 1 to 86,400,000.
+    pub stop_wait: u64,
 }
 
 /// A user that a source may log in as. It is not printed, since the password is a secret.

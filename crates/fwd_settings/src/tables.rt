@@ -4,9 +4,9 @@ ghost use Rattle.std.specs.Prelude.{◌≡◌, map};
 ghost use Rattle.fwd_settings.specs.Keys.{names_of};
 
 use crate::ranges::{
-    CHUNK_LIMIT_MAX, CONNECTIONS_MAX, DEPTH_MAX, DEPTH_MIN, MESSAGE_LIMIT_MAX, MESSAGE_LIMIT_MIN,
-    NAME_MAX, OUTPUTS_MAX, READERS_MAX, RETRY_WAIT_DEFAULT, SERVERS_MAX, SHARED_KEY_MAX,
-    TOTAL_LIMIT_MAX, WAIT_MAX, WINDOW_MAX, WORKERS_MAX,
+    CHUNK_LIMIT_MAX, CONNECTIONS_MAX, CONTROL_MAX, DEPTH_MAX, DEPTH_MIN, MESSAGE_LIMIT_MAX,
+    MESSAGE_LIMIT_MIN, NAME_MAX, OUTPUTS_MAX, READERS_MAX, RETRY_WAIT_DEFAULT, SERVERS_MAX,
+    SHARED_KEY_MAX, TOTAL_LIMIT_MAX, WAIT_MAX, WINDOW_MAX, WORKERS_MAX,
 };
 use std::fmt;
 
@@ -103,7 +103,7 @@ static ROOT: [KeyRule; 2] = [
     },
 ];
 
-static RELAY: [KeyRule; 13] = [
+static RELAY: [KeyRule; 15] = [
     KeyRule {
         name: "listen",
         allowed: Allowed::Address,
@@ -154,6 +154,14 @@ static RELAY: [KeyRule; 13] = [
     },
     KeyRule {
         name: "idle_limit",
+        allowed: Allowed::Time(1),
+    },
+    KeyRule {
+        name: "control",
+        allowed: Allowed::Text(1, CONTROL_MAX),
+    },
+    KeyRule {
+        name: "stop_wait",
         allowed: Allowed::Time(1),
     },
 ];

@@ -3,7 +3,7 @@
 use crate::server::Server;
 use anyhow::Result;
 use fwd_loop::Platform;
-use fwd_program::{Invocation, Log, run_all};
+use fwd_program::{Invocation, Log, Progress, run_all};
 use std::alloc::Global;
 use std::io::{ErrorKind, Write};
 use std::net::{Net, TcpListener, TcpStream};
@@ -131,7 +131,12 @@ impl Call {
         let mut output = Pipe::new(alloc, self.manner);
         let mut errors = Vec::new(alloc);
         let log = Log::Off;
-        let call = self.words(alloc).map(|words| Invocation { words, log });
+        let progress = Progress::Lines;
+        let call = self.words(alloc).map(|words| Invocation {
+            words,
+            log,
+            progress,
+        });
         let mut input = b"".as_slice();
         let status = run_all(rt, call, &mut input, &mut output, &mut errors);
         let written = String::from_utf8_lossy(alloc, &output.given)?;

@@ -50,7 +50,7 @@ static LOSSES: [LossReason; 14] = [
 ];
 
 /// What else is told.
-static OTHERS: [JournalEvent; 9] = [
+static OTHERS: [JournalEvent; 10] = [
     JournalEvent::Memory(MemoryFor::Monitor),
     JournalEvent::Memory(MemoryFor::Output(3)),
     JournalEvent::Memory(MemoryFor::News),
@@ -66,6 +66,7 @@ static OTHERS: [JournalEvent; 9] = [
     },
     JournalEvent::Room { output: 63 },
     JournalEvent::LeftOut(3),
+    JournalEvent::Stopping { held: 12_345 },
 ];
 
 /// A journal that is told each event a second after the one before.

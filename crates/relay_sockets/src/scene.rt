@@ -163,10 +163,15 @@ impl Scene {
             fault: None,
         };
         let reports = self.run(rt, stage, &mut until)?;
-        if let Some(fault) = until.fault {
+        let Until {
+            heard,
+            over: _,
+            fault,
+        } = until;
+        if let Some(fault) = fault {
             bail!("{fault}");
         }
-        self.put_end(stage, &reports, &until.heard)
+        self.put_end(stage, &reports, &heard)
     }
 
     /// What is printed of it, with so many readers. What failed is printed too, so that one scene

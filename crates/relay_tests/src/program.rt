@@ -130,7 +130,8 @@ fn ran(rt: &HostRuntime, list: io::Result<Vec<String>>, input: &str, fails: Fail
     Outcome { code, out, errors }
 }
 
-const USAGE: &str = "usage: forward_relay run CONFIG [TURNS] | check CONFIG | replay\n";
+const USAGE: &str =
+    "usage: forward_relay run CONFIG [TURNS] | stop CONFIG [SECONDS] | check CONFIG | replay\n";
 
 /// Words that ask for nothing that this program knows.
 const UNKNOWN: &[&[&str]] = &[

@@ -71,6 +71,11 @@ fn print_relay<R: Print + AllocGlobal>(rt: &R, relay: &RelaySettings) -> Result<
         Some(limit) => println!(rt; "relay.idle_limit {limit}"),
         None => println!(rt; "relay.idle_limit none"),
     };
+    let control = text_of(&relay.control);
+    let _ = println!(rt;
+        "relay.control {control}\nrelay.stop_wait {}",
+        relay.stop_wait
+    );
     Ok(())
 }
 

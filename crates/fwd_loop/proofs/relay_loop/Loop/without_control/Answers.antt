@@ -4,7 +4,7 @@ use Rattle.std.proofs.lemmas.List.{length-map}
 use Rattle.fwd_config.specs.Configs.{parts_known}
 use Rattle.fwd_loop.specs.Pools.{OutputShown, all_made_of, hop_of}
 use Rattle.fwd_loop.proofs.Outputs.{outputs_few, outputs_count, outputs_made}
-use Rattle.fwd_loop.proofs.relay_loop.Loop.new.Goals as goal
+use Rattle.fwd_loop.proofs.relay_loop.Loop.without_control.Goals as goal
 
 pub pools_of-requires-clause-each : goal.pools_of-requires-clause-each
 pools_of-requires-clause-each g c =

@@ -1,0 +1,267 @@
+//! A call that has a relay stop: it asks over the relay's control socket, and shows what the relay
+//! answers until the relay has ended.
+
+ghost use Rattle.std.specs.Prelude.{◌≡◌};
+ghost use Rattle.fwd_program.specs.Stops.{stop_code};
+
+use crate::asked_stop::StopCall;
+use crate::causes::say_refused;
+use crate::file::SettingsFile;
+use crate::saying::say;
+use arrayvec::ArrayString;
+use fwd_base::Text;
+use fwd_loop::ControlAnswer;
+use fwd_script::Status;
+use fwd_settings::{RelaySettings, Settings, SettingsFault};
+use std::alloc::Global;
+use std::io::{ErrorKind, Read, Write};
+use std::net::Net;
+use std::os::unix::net::UnixStream;
+use std::rt::Files;
+use std::time::Duration;
+use std::{fmt, io};
+
+/// How long the relay may say nothing, in milliseconds. It says something each second.
+const SILENCE: u64 = 30_000;
+
+/// The most bytes of a line that the relay sends.
+const LINE: usize = 128;
+
+/// How a call ended that has a relay stop.
+#[derive(Drop)]
+pub enum StopEnd {
+    /// All is delivered, where it is `Done`. Else the settings are refused, memory is, or a write.
+    Ran(Status),
+    /// The time was over, and so many entries are left.
+    Left(u64),
+    /// No relay answers, or it ended before it had answered.
+    Unanswered,
+}
+
+impl StopEnd {
+    /// The exit status.
+    pub fn exit_code(&self) -> u8
+        ensures { result ≡ stop_code self.now }
+    {
+        match self {
+            StopEnd::Ran(status) => status.exit_code(),
+            StopEnd::Left(_) => 6,
+            StopEnd::Unanswered => 4,
+        }
+    }
+}
+
+impl From<SettingsFault> for StopEnd {
+    fn from(fault: SettingsFault) -> StopEnd {
+        StopEnd::Ran(Status::from(fault))
+    }
+}
+
+/// What is told on standard error, without its line feed: nothing where all is delivered.
+impl fmt::Display for StopEnd {
+    fn fmt<W: fmt::Write>(&self, f: &mut fmt::Formatter<W>) -> fmt::Result {
+        match self {
+            StopEnd::Ran(status) => write!(f, "{status}"),
+            StopEnd::Left(entries) => write!(f, "left {entries} entries"),
+            StopEnd::Unanswered => f.write_str("stop: no answer"),
+        }
+    }
+}
+
+/// Why a relay does not answer.
+#[derive(Clone, Copy)]
+struct NoAnswer<'a> {
+    path: &'a str,
+    error: &'a io::Error,
+}
+
+impl fmt::Display for NoAnswer<'_> {
+    fn fmt<W: fmt::Write>(&self, f: &mut fmt::Formatter<W>) -> fmt::Result {
+        let NoAnswer { path, error } = self;
+        write!(f, "stop: {path}: {error}")
+    }
+}
+
+/// How what the relay answers is shown.
+#[derive(Clone, Copy)]
+pub enum Progress {
+    /// Each answer on a line of its own.
+    Lines,
+    /// Each in the place of the one before.
+    InPlace,
+}
+
+/// What a relay is asked, and where.
+#[derive(Drop)]
+struct Request {
+    /// The control socket's path.
+    path: Text,
+    /// How long the relay is given, in milliseconds.
+    wait: u64,
+}
+
+/// The settings in a file. It says why they are refused.
+fn settings_at<E: Write>(
+    alloc: Global,
+    file: &SettingsFile<'_>,
+    errors: &mut E,
+) -> Result<Settings, StopEnd> {
+    let found = file.settings(alloc);
+    if let Err(fault) = &found {
+        say_refused(alloc, file, fault, errors);
+    }
+    Ok(found?)
+}
+
+/// How a call ends whose settings name no control socket, which it says.
+fn without_control<E: Write>(alloc: Global, file: &SettingsFile<'_>, errors: &mut E) -> StopEnd {
+    let fault = match Text::from_str(alloc, "relay.control") {
+        Ok(key) => SettingsFault::Missing(key),
+        Err(_) => SettingsFault::Memory,
+    };
+    say_refused(alloc, file, &fault, errors);
+    StopEnd::from(fault)
+}
+
+/// What the relay of the settings in a file is asked.
+fn request_of<R: Files + AllocGlobal, E: Write>(
+    rt: &R,
+    call: StopCall<'_>,
+    errors: &mut E,
+) -> Result<Request, StopEnd> {
+    let file = SettingsFile::read(rt, call.path);
+    let Settings { relay, outputs: _ } = settings_at(rt.alloc(), &file, errors)?;
+    let RelaySettings {
+        control,
+        stop_wait,
+        ..
+    } = relay;
+    let wait = match call.seconds {
+        Some(seconds) => seconds.saturating_mul(1_000),
+        None => stop_wait,
+    };
+    match control {
+        Some(path) => Ok(Request { path, wait }),
+        None => Err(without_control(rt.alloc(), &file, errors)),
+    }
+}
+
+/// Asks a relay to stop. What it answers comes over this stream.
+fn ask<R: Net>(rt: &R, request: &Request) -> io::Result<UnixStream> {
+    let mut stream = UnixStream::connect(rt, request.path.as_str())?;
+    stream.set_read_timeout(Some(Duration::from_millis(SILENCE)))?;
+    let wait = request.wait;
+    let mut line: ArrayString<LINE> = ArrayString::new();
+    let _ = fmt::Write::write_fmt(&mut line, format_args!("stop {wait}\n"));
+    stream.write_all(line.as_str().as_bytes())?;
+    Ok(stream)
+}
+
+/// Shows what a relay answers.
+#[derive(Drop)]
+struct Show<'a, W: Write> {
+    output: &'a mut W,
+    progress: Progress,
+    /// The line that comes, so far.
+    line: ArrayString<LINE>,
+    /// What it answered last.
+    last: Option<ControlAnswer>,
+}
+
+impl<'a, W: Write> Show<'a, W> {
+    /// Takes bytes that a relay sent.
+    fn take(&mut self, bytes: &[u8]) {
+        for byte in bytes {
+            match *byte {
+                b'\n' => self.end_line(),
+                byte => {
+                    let _ = self.line.try_push(char::from(byte));
+                }
+            }
+        }
+    }
+
+    /// The line that came is over. One that is no answer is passed over.
+    fn end_line(&mut self) {
+        if let Some(answer) = ControlAnswer::read(self.line.as_str()) {
+            self.last = Some(answer);
+            // The relay stops whether it is shown or not.
+            let _ = self.write(answer);
+        }
+        self.line.clear();
+    }
+
+    /// Shows an answer: the last one is not of what is held, and stays.
+    fn write(&mut self, answer: ControlAnswer) -> io::Result<()> {
+        let is_last = !matches!(answer, ControlAnswer::Holds { .. });
+        match self.progress {
+            Progress::Lines => writeln!(self.output, "{answer}")?,
+            Progress::InPlace if is_last => writeln!(self.output, "\r\u{1b}[K{answer}")?,
+            Progress::InPlace => write!(self.output, "\r\u{1b}[K{answer}")?,
+        }
+        self.output.flush()
+    }
+
+    /// How a call ended whose relay has ended, too.
+    fn end(self) -> StopEnd {
+        match self.last {
+            Some(ControlAnswer::Delivered) => StopEnd::Ran(Status::Done),
+            Some(ControlAnswer::Left(entries)) => StopEnd::Left(entries),
+            _ => StopEnd::Unanswered,
+        }
+    }
+}
+
+/// Shows what a relay answers over a stream until it has ended, or has said nothing for long.
+fn watch<W: Write>(stream: &mut UnixStream, output: &mut W, progress: Progress) -> StopEnd {
+    let mut show = Show {
+        output,
+        progress,
+        line: ArrayString::new(),
+        last: None,
+    };
+    let mut room = [0; LINE];
+    for _ in 0..u64::MAX {
+        match stream.read(&mut room) {
+            Ok(0) => break,
+            Ok(count) => show.take(room.get(..count).unwrap_or(&[])),
+            Err(error) if error.kind() == ErrorKind::Interrupted => {}
+            Err(_) => break,
+        }
+    }
+    show.end()
+}
+
+/// Has the relay of the settings in a file stop, and shows what it answers until it has ended. It
+/// ends with `Ran(Done)` where all is delivered, and with `Left` where its time was over before. A
+/// file that cannot be read, refused settings and settings without a control socket are
+/// `Ran(BadSettings)`; where no relay answers it is `Unanswered`. The errors say why.
+pub(crate) fn stop_relay<R: Net + Files + AllocGlobal, W: Write, E: Write>(
+    rt: &R,
+    call: StopCall<'_>,
+    progress: Progress,
+    output: &mut W,
+    errors: &mut E,
+) -> StopEnd {
+    let request = match request_of(rt, call, errors) {
+        Ok(request) => request,
+        Err(end) => return end,
+    };
+    match ask(rt, &request) {
+        Ok(stream) => {
+            let mut stream = stream;
+            watch(&mut stream, output, progress)
+        }
+        Err(error) => {
+            let path = request.path.as_str();
+            say(
+                errors,
+                &NoAnswer {
+                    path,
+                    error: &error,
+                },
+            );
+            StopEnd::Unanswered
+        }
+    }
+}
