@@ -4,7 +4,7 @@
 #     sh packaging/container.sh [FOLDER]
 #
 # Run at the top of the repository. RELAY names the program, else it is crates/forward_relay/out/forward_relay. VERSION
-# is that of crates/fwd_program/src/version.rt, and its day that of its heading in CHANGELOG.md: the same program, C
+# is that of crates/fwd_monitor/src/version.rt, and its day that of its heading in CHANGELOG.md: the same program, C
 # library and files make the same bytes. It is a root file system, as docker import and podman import take it. It has
 #
 #     /usr/sbin/forward_relay
@@ -25,7 +25,7 @@ program=${RELAY:-crates/forward_relay/out/forward_relay}
     echo "no program at $program: name one with RELAY, or build it (README, \"Install\")" >&2
     exit 1
 }
-version=$(sed -n 's/^pub const VERSION: &str = "\(.*\)";$/\1/p' crates/fwd_program/src/version.rt)
+version=$(sed -n 's/^pub const VERSION: &str = "\(.*\)";$/\1/p' crates/fwd_monitor/src/version.rt)
 day=$(sed -n "s/^## \[$version\] - \(.*\)\$/\1/p" CHANGELOG.md)
 [ -n "$day" ] || {
     echo "CHANGELOG.md has no day of version $version, or this is not the top of the repository" >&2

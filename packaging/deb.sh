@@ -4,7 +4,7 @@
 #     sh packaging/deb.sh [FOLDER]
 #
 # Run at the top of the repository. RELAY names the program, else it is crates/forward_relay/out/forward_relay. VERSION
-# is that of crates/fwd_program/src/version.rt, and its day that of its heading in CHANGELOG.md: the same program and
+# is that of crates/fwd_monitor/src/version.rt, and its day that of its heading in CHANGELOG.md: the same program and
 # files make the same bytes. DEBFULLNAME and DEBEMAIL say who maintains it. It needs Debian's binutils, for strip, and
 # takes some seconds. What it has is what packaging/install.sh puts in place, where Debian has such files, and the
 # scripts of packaging/deb.
@@ -15,7 +15,7 @@ set -eu
     exit 2
 }
 name=forward-relay
-version=$(sed -n 's/^pub const VERSION: &str = "\(.*\)";$/\1/p' crates/fwd_program/src/version.rt)
+version=$(sed -n 's/^pub const VERSION: &str = "\(.*\)";$/\1/p' crates/fwd_monitor/src/version.rt)
 day=$(sed -n "s/^## \[$version\] - \(.*\)\$/\1/p" CHANGELOG.md)
 [ -n "$day" ] || {
     echo "CHANGELOG.md has no day of version $version, or this is not the top of the repository" >&2
@@ -31,19 +31,14 @@ trap 'rm -rf "$folder"' EXIT
 umask 022
 tree=$folder/tree
 doc=$tree/usr/share/doc/$name
-mkdir -p "$tree/DEBIAN" "$doc/examples" "$tree/lib" "$tree/usr/lib/sysusers.d"
+mkdir -p "$tree/DEBIAN" "$doc" "$tree/lib" "$tree/usr/lib/sysusers.d"
 
 DESTDIR=$tree sh packaging/install.sh --prefix /usr >"$folder/installed"
 program=$tree/usr/sbin/forward_relay
 strip --strip-unneeded "$program"
 mv "$tree/usr/lib/systemd" "$tree/lib/systemd"
 rm "$tree/usr/share/doc/forward_relay/folders"
-for file in "$tree"/usr/share/doc/forward_relay/*; do
-    case $file in
-    *.md) mv "$file" "$doc" ;;
-    *) mv "$file" "$doc/examples" ;;
-    esac
-done
+mv "$tree"/usr/share/doc/forward_relay/* "$doc"
 rmdir "$tree/usr/share/doc/forward_relay"
 cp packaging/deb/copyright "$doc/copyright"
 cp packaging/deb/sysusers.conf "$tree/usr/lib/sysusers.d/$name.conf"

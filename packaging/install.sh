@@ -8,10 +8,10 @@
 #
 #     P/sbin/forward_relay
 #     P/bin/forward_relay-watch        needs python3 (3.9 or later) and nothing else
-#     P/lib/forward_relay/             what that is
+#     P/bin/forward_relay-sizing       the same
+#     P/lib/forward_relay/             what these are
 #     P/share/man/man8/forward_relay.8
-#     P/share/doc/forward_relay/       OPERATING.md, FORMATS.md, CHANGELOG.md, the example settings, and the list of folders
-#                                      that were made
+#     P/share/doc/forward_relay/       OPERATING.md, FORMATS.md, CHANGELOG.md, examples, and the list of folders that were made
 #     P/lib/systemd/system/forward_relay.service
 #     P/etc/forward_relay/relay.toml   the example settings with the unit's control socket, readable by root alone, and
 #                                      never over an existing file;
@@ -55,8 +55,8 @@ bin=$prefix/bin sbin=$prefix/sbin lib=$prefix/lib/forward_relay man=$prefix/shar
 doc=$prefix/share/doc/forward_relay unit=$prefix/lib/systemd/system
 root=${DESTDIR:-}
 folders=$root$doc/folders
-examples='examples/*.toml examples/*.conf examples/*.cfg examples/*.yml'
-version=$(sed -n 's/^pub const VERSION: &str = "\(.*\)";$/\1/p' crates/fwd_program/src/version.rt)
+tools='watch sizing'
+version=$(sed -n 's/^pub const VERSION: &str = "\(.*\)";$/\1/p' crates/fwd_monitor/src/version.rt)
 
 # makes a folder and those above it, and notes each that was not there
 make() {
@@ -108,17 +108,23 @@ TEXT
         exit 1
     }
     [ -n "$version" ] || {
-        echo "no version in crates/fwd_program/src/version.rt: run this at the top of the repository" >&2
+        echo "no version in crates/fwd_monitor/src/version.rt: run this at the top of the repository" >&2
         exit 1
     }
     made=
     put "$program" 755 "$sbin/forward_relay"
-    put_filled packaging/forward_relay-watch 755 "$bin/forward_relay-watch"
-    put tools/watch.py 644 "$lib/watch.py"
+    for tool in $tools; do
+        put_filled "packaging/forward_relay-$tool" 755 "$bin/forward_relay-$tool"
+        put "tools/$tool.py" 644 "$lib/$tool.py"
+    done
     put tools/page.py 644 "$lib/page.py"
     put_filled packaging/forward_relay.8 644 "$man/forward_relay.8"
-    for file in docs/OPERATING.md docs/FORMATS.md CHANGELOG.md $examples; do
+    for file in docs/OPERATING.md docs/FORMATS.md CHANGELOG.md; do
         put "$file" 644 "$doc/${file##*/}"
+    done
+    for file in examples/*; do
+        put "$file" 644 "$doc/$file"
+        take "$doc/${file##*/}" # where versions before had it
     done
     put_filled packaging/forward_relay.service 644 "$unit/forward_relay.service"
     if [ -e "$root$etc/relay.toml" ]; then
@@ -147,14 +153,17 @@ TEXT
 
 uninstall_all() {
     take "$sbin/forward_relay"
-    for tool in watch metrics; do # the second was of versions before
+    for tool in $tools metrics; do # the last was of versions before
         take "$bin/forward_relay-$tool"
         take "$lib/$tool.py"
     done
     take "$lib/page.py"
     take "$man/forward_relay.8"
-    for file in docs/OPERATING.md docs/FORMATS.md CHANGELOG.md $examples; do
+    for file in docs/OPERATING.md docs/FORMATS.md CHANGELOG.md examples/*; do
         take "$doc/${file##*/}"
+    done
+    for file in examples/*; do
+        take "$doc/$file"
     done
     take "$unit/forward_relay.service"
     if [ ! -e "$root$etc/relay.toml" ] || write_settings | cmp -s - "$root$etc/relay.toml"; then

@@ -2,7 +2,7 @@
 
 import re
 
-SAMPLE = re.compile(r'([a-z_]+)(?:\{((?:[a-z_]+="(?:[^"\\\n]|\\["\\n])*",?)*)\})? (\d+)')
+SAMPLE = re.compile(r'([a-z_]+)(?:\{((?:[a-z_]+="(?:[^"\\\n]|\\["\\n])*",?)*)\})? (\d+(?:\.\d\d)?)')
 LABEL = re.compile(r'([a-z_]+)="((?:[^"\\\n]|\\["\\n])*)"')
 SPELLED = {"\\\\": "\\", '\\"': '"', "\\n": "\n"}
 
@@ -30,6 +30,6 @@ def read_metrics(text):
             assert found and found[1] == name and name in typed, line
             labels = frozenset((key, label(value)) for key, value in LABEL.findall(found[2] or ""))
             assert (name, labels) not in samples, line
-            samples[name, labels] = int(found[3])
+            samples[name, labels] = float(found[3]) if "." in found[3] else int(found[3])
     assert helped == set(typed)
     return samples

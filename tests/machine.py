@@ -20,8 +20,8 @@ exec cat
 class Machine:
     """The layer, in a namespace that ends with a process. What is in the folder `given` is in its /mnt."""
 
-    def __init__(self, folder, given):
-        words = ["unshare", "--mount", "sh", "-c", LAYERS, "sh", folder, given]
+    def __init__(self, folder, given, words=None):
+        words = words or ["unshare", "--mount", "sh", "-c", LAYERS, "sh", folder, given]
         pipes = {"stdin": subprocess.PIPE, "stdout": subprocess.PIPE, "stderr": subprocess.PIPE}
         self.upper, self.root = f"{folder}/upper", f"{folder}/root"
         self.process = subprocess.Popen(words, text=True, **pipes)

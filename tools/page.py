@@ -93,7 +93,7 @@ def page_url(text):
     except ValueError:
         good = False
     if not good:
-        raise argparse.ArgumentTypeError(f"no address of a page: {text!r}")
+        raise argparse.ArgumentTypeError(f"no address of a page, as http://127.0.0.1:8080/: {text!r}")
     return text
 
 

@@ -7,7 +7,8 @@ set -e
 systemd-sysusers ${DPKG_ROOT:+--root="$DPKG_ROOT"} forward-relay.conf
 [ ! -d /run/systemd/system ] || systemctl --system daemon-reload || true
 if [ -z "$2" ]; then
-    echo "forward_relay: write /etc/forward_relay/relay.toml, and then: systemctl enable --now forward_relay"
+    echo "forward_relay: read /usr/share/doc/forward-relay/OPERATING.md, write /etc/forward_relay/relay.toml, and then:"
+    echo "    systemctl enable --now forward_relay"
 else
     echo "forward_relay: a relay that runs is still the old one, until: systemctl restart forward_relay"
 fi

@@ -13,7 +13,7 @@ pytestmark = pytest.mark.quick
 OUTPUT = '[[output]]\nmatch = "**"\n'
 SERVER = '[[output.server]]\naddress = "192.0.2.1:24224"\n'
 BOTH = OUTPUT + SERVER
-SHORT = "chunk_limit = 5000000\n"  # no caution of chunks that some servers refuse
+SHORT = "chunk_limit = 5000000\nflush_interval = 1000\n"  # no caution of its limits
 ADDRESS = "a numeric address and a port from 1 to 65535"
 
 # What is wrong, the text, the line, and words that have to be there beside the key.
@@ -34,12 +34,16 @@ REFUSED = {
         ["server is refused", "[[output.server]]"],
     ),
     "two in place of one": ("[[relay]]\ndepth = 8\n" + BOTH, 1, ["relay is refused", "[relay]"]),
-    "a name for an address": ('[relay]\nlisten = "localhost:24224"\n' + BOTH, 2, ["relay.listen is refused", ADDRESS]),
+    "a name for an address": (
+        '[relay]\nlisten = "localhost:24224"\n' + BOTH,
+        2,
+        ["relay.listen is refused", ADDRESS, "no name is looked up: ", '"TLS and names"'],
+    ),
     "no port": ('[relay]\nmonitor = "127.0.0.1"\n' + BOTH, 2, ["relay.monitor is refused", ADDRESS]),
     "a server's name": (
         BOTH.replace("192.0.2.1", "logs.example"),
         4,
-        ["output[0].server[0].address is refused", ADDRESS],
+        ["output[0].server[0].address is refused", ADDRESS, "no name is looked up: "],
     ),
     "no match": (
         "[relay]\n\n[[output]]\nworkers = 1\n" + SERVER,
@@ -57,7 +61,17 @@ REFUSED = {
     "a time with its unit": (
         OUTPUT + 'ack_wait = "5s"\n' + SERVER,
         3,
-        ["output[0].ack_wait", "a whole number of milliseconds"],
+        ["output[0].ack_wait", "a whole number of milliseconds", "; give a number of ms, without a unit"],
+    ),
+    "the greatest wait with its unit": (
+        OUTPUT + 'retry_max = "60s"\n' + SERVER,
+        3,
+        ["output[0].retry_max is refused", "; give a number of ms, without a unit"],
+    ),
+    "bytes with their unit": (
+        OUTPUT + 'chunk_limit = "8MB"\n' + SERVER,
+        3,
+        ["output[0].chunk_limit", "a whole number of bytes", "; give a number of bytes, without a unit"],
     ),
     "a greatest wait below the first": (
         OUTPUT + "retry_wait = 5000\nretry_max = 1000\n" + SERVER,
@@ -103,6 +117,145 @@ REFUSED = {
         6,
         ["output[0].server[1].address", ADDRESS],
     ),
+}
+
+# Values that are refused without further words: there is no name in them, or no number.
+UNHINTED = [
+    '[relay]\nlisten = "127.0.0.1"\n' + BOTH,
+    '[relay]\nlisten = "fe80::1:24224"\n' + BOTH,
+    '[relay]\nlisten = "[fe80::1%eth0]:24224"\n' + BOTH,
+    "[relay]\nlisten = 24224\n" + BOTH,
+    OUTPUT + 'ack_wait = "soon"\n' + SERVER,
+    OUTPUT + "ack_wait = 5.0\n" + SERVER,
+    OUTPUT + "ack_wait = 0\n" + SERVER,
+    OUTPUT + 'workers = "4"\n' + SERVER,
+]
+
+# Texts with several faults: of each the key and its line, in the order in which they are judged.
+SEVERAL = {
+    "in each table": (
+        """[relay]
+listen = "localhost:24224"
+shared_key = ""
+depth = 7
+colour = "red"
+[[relay.user]]
+name = "a"
+[[relay.user]]
+password = ""
+name = "b"
+[[output]]
+workers = 17
+retry_wait = "1s"
+retry_max = 5
+[[output.server]]
+standby = true
+[[output.server]]
+address = "logs.example:24224"
+standby = true
+port = 1
+[[output]]
+match = "a.b*"
+""",
+        [
+            ("relay.listen", 2),
+            ("relay.shared_key", 3),
+            ("relay.depth", 4),
+            ("relay.user[0].password", 6),
+            ("relay.user[1].password", 9),
+            ("output[0].match", 11),
+            ("output[0].workers", 12),
+            ("output[0].retry_wait", 13),
+            ("output[0].server", 15),
+            ("output[0].server[0].address", 15),
+            ("output[0].server[1].address", 18),
+            ("output[1].match", 22),
+            ("output[1].server", 21),
+            ("output[0].server[1].port", 20),
+            ("relay.colour", 5),
+        ],
+    ),
+    "members that are no tables": (
+        '[relay]\nreaders = 0\n[[output]]\nmatch = "**"\nserver = ["127.0.0.1:1", 7]\nfull = "drop"\n',
+        [
+            ("relay.readers", 2),
+            ("output[0].server[0]", 5),
+            ("output[0].server[1]", 5),
+            ("output[0].full", 6),
+        ],
+    ),
+    "no tables at all": ("relay = 1\noutput = 2\n", [("relay", 1), ("output", 2)]),
+    "users without a key, and what else they lack": (
+        '[relay]\n[[relay.user]]\nname = ""\n[[output]]\nmatch = ""\n' + SERVER,
+        [("relay.user", 2), ("output[0].match", 5)],
+    ),
+    "a key in quotes, which is not that of a table": (
+        '"relay.depth" = 7\n[relay]\ndepth = 7\n' + BOTH,
+        [("relay.depth", 3), ("relay.depth", 3)],
+    ),
+}
+
+# What is hardly meant in the relay's own table, in an output, and in the servers; and what is said of it.
+CAUTIONS = {
+    "metrics that nobody can ask for": (
+        "metrics = true\n",
+        "",
+        SERVER,
+        ["metrics without monitor: nobody can ask for them"],
+    ),
+    "metrics with a monitor": ('metrics = true\nmonitor = "127.0.0.1:9"\n', "", SERVER, []),
+    "all addresses": (
+        'listen = "0.0.0.0:24224"\n',
+        "",
+        SERVER,
+        ["listen 0.0.0.0:24224 without shared_key: whoever reaches it may send"],
+    ),
+    "all addresses of IPv6": (
+        'listen = "[::]:24224"\n',
+        "",
+        SERVER,
+        ["listen [::]:24224 without shared_key: whoever reaches it may send"],
+    ),
+    "all addresses with a key": ('listen = "0.0.0.0:24224"\nshared_key = "k"\n', "", SERVER, []),
+    "one address twice": (
+        "",
+        "workers = 3\n",
+        SERVER + SERVER.replace("192.0.2.1", "192.0.2.2") + SERVER + "standby = true\n",
+        ["output 0 server 192.0.2.1:24224 is listed twice: it counts as two servers"],
+    ),
+    "one host at two ports": ("", "workers = 2\n", SERVER + SERVER.replace("24224", "24225"), []),
+    "a request that never enters": (
+        "message_limit = 6000001\n",
+        "total_limit = 6000000\n",
+        SERVER,
+        ["output 0 total_limit 6000000 below message_limit 6000001: a request with more bytes of entries never enters"],
+    ),
+    "a request that just enters": ("message_limit = 6000000\n", "total_limit = 6000000\n", SERVER, []),
+    "a long wait for others": (
+        "",
+        "flush_interval = 1001\n",
+        SERVER,
+        [
+            "output 0 flush_interval 1001 above 1000: "
+            "a client that waits for each acknowledgement sends one request in that time"
+        ],
+    ),
+}
+
+# Patterns, and what is said of what they have.
+LITERALS = {
+    "/app/": "/../",
+    "a /app/ b": "/../",
+    "/a|b/": "/../",
+    "/a b/": "/../",
+    "app.#{host}": "#{..}",
+    "app.a, app.b": "a comma outside braces",
+    "app.{a,b},c": "a comma outside braces",
+    "app.a | app.b": "|",
+    "app.{a|b}": "|",
+    "app.{a,b}.** c": None,
+    "/var/log": None,
+    "a#b": None,
 }
 
 # The outputs' patterns, and which of the outputs get nothing.
@@ -152,6 +305,32 @@ def test_refused(checked, what):
     for word in words:
         assert word in told[0], told
     assert told[1].startswith("settings: ")
+
+
+@pytest.mark.parametrize("text", UNHINTED)
+def test_no_hint(checked, text):
+    """Of a value without a name or a unit only what is allowed is said."""
+    _, _, told = checked(text)
+    assert len(told) == 2 and ";" not in told[0], told
+
+
+@pytest.mark.parametrize("what", SEVERAL)
+def test_several_faults(checked, what):
+    """Each fault has a line, in the order in which they are judged, and the first is that of the status."""
+    text, faults = SEVERAL[what]
+    status, printed, told = checked(text)
+    assert (status, printed) == (1, "")
+    assert [re.match(r"settings: relay\.toml line (\d+): (\S+) ", line).groups() for line in told[:-1]] == [
+        (str(line), key) for key, line in faults
+    ]
+    assert told[-1].startswith("settings: ") and told[-1].endswith(f" {faults[0][0]}")
+
+
+def test_many_faults(checked):
+    """Of more than twenty faults the first twenty are told."""
+    _, _, told = checked(OUTPUT + "".join(f"key{number:02} = 1\n" for number in range(30)) + SERVER)
+    keys = [re.search(r"output\[0\]\.key\d\d", line)[0] for line in told]
+    assert keys == [f"output[0].key{number:02}" for number in [*range(20), 0]]
 
 
 def ranges():
@@ -206,12 +385,33 @@ def test_outputs_that_get_nothing(checked, patterns):
     ]
 
 
+@pytest.mark.parametrize("what", CAUTIONS)
+def test_cautions(checked, what):
+    """What is hardly meant is told on a line, and what is like it and may be meant is not."""
+    relay, output, servers, lines = CAUTIONS[what]
+    short = SHORT.replace("flush_interval = 1000\n", "") if "flush_interval" in output else SHORT
+    status, printed, told = checked(f"[relay]\n{relay}{OUTPUT}{short}{output}{servers}")
+    assert (status, printed) == (0, "settings are good, outputs: 1\n")
+    assert told == [f"caution: {line}" for line in lines]
+
+
+@pytest.mark.parametrize("pattern", LITERALS)
+def test_patterns_of_fluentd(checked, pattern):
+    """What Fluentd means something by, and the relay does not."""
+    status, _, told = checked((OUTPUT + SHORT + SERVER).replace("**", pattern))
+    what = LITERALS[pattern]
+    line = f"caution: output 0 match has {what}: literal here, unlike in Fluentd"
+    assert (status, told) == (0, [line] if what else [])
+
+
 @pytest.mark.parametrize(
     ("workers", "servers", "standbys", "idle"), [(1, 3, 0, 2), (2, 2, 0, 0), (4, 1, 0, 0), (1, 1, 3, 0)]
 )
 def test_servers_that_get_nothing(checked, workers, servers, standbys, idle):
     """Fewer workers than servers that are no standby are cautioned of, and more are not."""
-    text = OUTPUT + SHORT + f"workers = {workers}\n" + SERVER * servers + (SERVER + "standby = true\n") * standbys
+    many = [SERVER.replace("24224", str(24224 + place)) for place in range(servers + standbys)]
+    text = OUTPUT + SHORT + f"workers = {workers}\n" + "".join(many[:servers])
+    text += "".join(server + "standby = true\n" for server in many[servers:])
     status, _, told = checked(text)
     line = (
         f"caution: output 0 workers {workers} for servers {servers}: the last {idle} get nothing until another is lost"

@@ -7,10 +7,11 @@ from pathlib import Path
 
 import pytest
 
-from forward import Source, event_time
+from forward import Source, connect, event_time
 
 COUNT = 100
 KEY = "a secret of both sides"
+SILENCE = 0.5  # seconds
 START = 1_700_000_000
 
 
@@ -61,3 +62,36 @@ def test_key(relay, next_hop):
             source.ask("app.login", entries, "packed")
             sent += [("app.login", *entry) for entry in entries]
     assert hop.entries() == sent
+
+
+@pytest.mark.quick
+def test_a_key_at_the_relay_alone(relay, next_hop, build_go, needed):
+    """The relay closes each client that sends something; one that asks sees that it is not acknowledged."""
+    client = build_go(Path(__file__).with_name("client.go"))
+    needed("golang-go and golang-github-fluent-fluent-logger-golang-dev", client)
+    needed("python3-fluent-logger", importlib.util.find_spec("fluent"))
+    hop = next_hop()
+    one = relay([{"servers": [hop.port]}], shared_key=KEY)
+    ran = subprocess.run([client, str(one.port), "seconds", "acks"], capture_output=True, text=True, timeout=120)
+    assert ran.returncode == 1 and "message ack () doesn't match expected one" in ran.stderr
+    one.await_line(r"source closed: \S+ NotPing")
+    ran = subprocess.run([client, str(one.port), "seconds", "none"], timeout=120)
+    assert ran.returncode == 0
+    sender = importlib.import_module("fluent.sender").FluentSender("app", host="127.0.0.1", port=one.port)
+    one.until(lambda: not sender.emit("python", {"n": 1}), "each call returns True")
+    sender.close()
+    two = relay([{"servers": [one.port]}])
+    two.source().send()
+    two.await_line(f"server lost: output 0 127.0.0.1:{one.port} BadReply")
+    assert hop.count() == 0
+
+
+@pytest.mark.quick
+def test_a_key_at_the_client_alone(relay, next_hop):
+    """A client that waits for a HELO hears nothing, and a relay as the client is late with its handshake."""
+    one = relay([{"servers": [next_hop().port]}])
+    with connect(one.port) as stream:
+        stream.hears_nothing(SILENCE)
+    two = relay([{"servers": [one.port], "shared_key": KEY, "ack_wait": 300}])
+    two.source().send()
+    two.await_line(f"server lost: output 0 127.0.0.1:{one.port} Late")

@@ -1,10 +1,11 @@
-"""The blocks of commands of README and OPERATING, typed as they stand."""
+"""The blocks of commands of README and OPERATING, typed as they stand: on a page, and with the indent that the file has."""
 
 import contextlib
 import os
 import re
 import signal
 import subprocess
+import textwrap
 
 import pytest
 
@@ -22,7 +23,12 @@ SHOWN = {
     ],
     "replay": [],
     "install.sh": [],
+    "openssl": [],
 }
+# What writes into the folder that it is typed in.
+WRITING = ("openssl",)
+# What is typed elsewhere: by tests/stop/test_containers.py.
+ELSEWHERE = ("docker run",)
 # What a synopsis leaves to choose.
 CHOSEN = {"[--prefix P]": "--prefix {folder}"}
 
@@ -31,12 +37,16 @@ def found():
     """Each block that is to be typed, with its document. Those that prove take minutes."""
     for name in ("README.md", "docs/OPERATING.md"):
         for block in filter(is_of_commands, blocks(text_of(name))):
-            mark = pytest.mark.minutes if re.search(r"\brt ", block) else pytest.mark.quick
-            yield pytest.param(name, block, marks=mark, id=f"{name}: {block.splitlines()[0][:40]}")
+            label = f"{name}: {block.splitlines()[0][:40]}"
+            if re.search(r"\brt ", block):
+                yield pytest.param(name, block, marks=pytest.mark.minutes, id=label)
+            elif not block.startswith(ELSEWHERE):
+                yield pytest.param(name, block, marks=pytest.mark.quick, id=label)
+                yield pytest.param(name, textwrap.indent(block, "    "), marks=pytest.mark.quick, id=f"{label}, raw")
 
 
-def alone(script, folder, longest):
-    """Types lines into a shell at the top of the repository: its status, and what it printed.
+def alone(script, folder, longest, place):
+    """Types lines into a shell in a place: its status, and what it printed.
 
     The shell has a network of its own, with every port free, where the system gives one.
     """
@@ -48,7 +58,7 @@ def alone(script, folder, longest):
     with open(folder / "printed", "wb") as printed:
         words = [*network, "sh", "-e", str(path)]
         typed = subprocess.Popen(
-            words, cwd=TOP, stdin=subprocess.DEVNULL, stdout=printed, stderr=subprocess.STDOUT, start_new_session=True
+            words, cwd=place, stdin=subprocess.DEVNULL, stdout=printed, stderr=subprocess.STDOUT, start_new_session=True
         )
         try:
             status = typed.wait(longest)
@@ -68,7 +78,8 @@ def test_block(program, tmp_path, name, block):
     assert words, f"say in this test what this block shows:\n{block}"
     for synopsis, chosen in CHOSEN.items():
         block = block.replace(synopsis, chosen.format(folder=tmp_path))
-    status, printed = alone(block, tmp_path, 7200 if re.search(r"\brt ", block) else 120)
+    place = tmp_path if words[0] in WRITING else TOP
+    status, printed = alone(block, tmp_path, 7200 if re.search(r"\brt ", block) else 120, place)
     assert status == 0, f"{status}: {printed}"
     for line in SHOWN[words[0]]:
         assert line in printed, printed

@@ -60,7 +60,7 @@ def test_links():
 
 def test_version():
     """The program's version is the newest of CHANGELOG, of a day that the manual page has too."""
-    version = re.search(r'VERSION: &str = "(.+)";', text_of("crates/fwd_program/src/version.rt"))[1]
+    version = re.search(r'VERSION: &str = "(.+)";', text_of("crates/fwd_monitor/src/version.rt"))[1]
     headings = re.findall(r"^## (.*)$", text_of("CHANGELOG.md"), re.MULTILINE)
     dated = [re.fullmatch(r"\[(\d+\.\d+\.\d+)\] - (\d{4}-\d\d-\d\d)", heading) for heading in headings]
     assert all(dated), headings
@@ -178,3 +178,13 @@ def test_examples_wait():
             assert (TOP / copy).read_text() == text
     man = text_of("packaging/forward_relay.8")
     assert 'full = "wait"' in re.search(r"^\.Sh EXAMPLES\n(.*?)^\.Ed$", man, re.MULTILINE | re.DOTALL)[1]
+
+
+def test_examples_send_at_once():
+    """Each example says of each output how long a chunk waits: not at all, but where that would cost its server much."""
+    for path in sorted((TOP / "examples").glob("*.toml")):
+        first, *others = tomllib.loads(path.read_text())["output"]
+        assert first["flush_interval"] == 0, path
+        assert all("flush_interval" in output for output in others), path
+    man = text_of("packaging/forward_relay.8")
+    assert "flush_interval = 0" in re.search(r"^\.Sh EXAMPLES\n(.*?)^\.Ed$", man, re.MULTILINE | re.DOTALL)[1]

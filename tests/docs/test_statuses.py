@@ -56,8 +56,28 @@ def test_refused_settings(program, tmp_path):
 def test_calls(program):
     """A call that it does not know is told what it knows."""
     usage = "usage: forward_relay run CONFIG [TURNS] | stop CONFIG [SECONDS] | check CONFIG | replay\n"
-    for words in ([], ["start"], ["check"], ["run", "a", "b"], ["replay", "x"], [b"check\xff", "a"]):
+    wrong = [["start"], ["check"], ["run", "a", "b"], ["replay", "x"], [b"check\xff", "a"], ["--version", "x"], ["-h"]]
+    for words in ([], *wrong):
         assert ended([program, *words]) == (2, usage), words
+
+
+def test_version_and_help(program):
+    """The version is the code's, and help has a line for each call that the manual page has."""
+    version = re.search(r'VERSION: &str = "(.+)";', text_of("crates/fwd_monitor/src/version.rt"))[1]
+    man = re.search(r"^\.Sh SYNOPSIS\n(.*?)^\.Sh ", text_of("packaging/forward_relay.8"), re.MULTILINE | re.DOTALL)[1]
+    man = re.sub(r"\.Op Ar (\w+)", r"[\1]", man).replace(".Ar ", "").replace(".Cm ", "")
+    calls = [" ".join(call.split()) for call in man.split(".Nm\n")[1:]]
+    calls = [re.sub(r"(?<= )\S+", lambda word: word[0].upper(), call) for call in calls]
+    assert {call.split()[0] for call in calls} == {"run", "stop", "check", "replay", "version", "help"}
+    for dashes in ("", "--"):
+        done = subprocess.run([program, f"{dashes}version"], capture_output=True, timeout=60, text=True)
+        assert (done.returncode, done.stdout, done.stderr) == (0, f"forward_relay {version}\n", "")
+        done = subprocess.run([program, f"{dashes}help"], capture_output=True, timeout=60, text=True)
+        assert (done.returncode, done.stderr) == (0, "") and done.stdout.startswith("usage: ")
+        lines = done.stdout.removeprefix("usage: ").splitlines()
+        assert [re.split(r" {2,}", line.strip())[0] for line in lines] == [f"forward_relay {call}" for call in calls]
+        with open("/dev/full", "w") as full:
+            assert ended([program, f"{dashes}help"], stdout=full) == (5, "output\n")
 
 
 def test_bad_line(program, tmp_path):

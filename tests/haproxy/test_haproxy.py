@@ -2,6 +2,7 @@
 
 import csv
 import os
+import re
 import shutil
 import socket
 
@@ -10,6 +11,7 @@ import pytest
 from documents import recipe
 from forward import HOST, Source
 from relay import Child, free_ports, until
+from stopping import Stoppable
 from traffic import Traffic
 
 pytestmark = pytest.mark.quick
@@ -48,6 +50,11 @@ class Balancer(Child):
         """What it counts of a server."""
         rows = csv.DictReader(self.tell("show stat").lstrip("# ").splitlines())
         return next(row for row in rows if row["svname"] == name)
+
+    def sources(self, name):
+        """The ports of the sources that a server has, as OPERATING has them looked up."""
+        lines = [line for line in self.tell("show sess").splitlines() if f"srv={name}" in line]
+        return {int(re.search(r" src=\S+:(\d+) ", line)[1]) for line in lines}
 
     def await_state(self, name, state):
         """Waits until a server is so."""
@@ -134,3 +141,34 @@ def test_one_is_taken_out(relay, balancer, next_hop):
     with Source(front.port) as source:
         source.ask()
     assert int(front.row("one")["stot"]) > before
+
+
+def test_one_is_stopped(relay, program, balancer, next_hop, tmp_path):
+    """A relay that is stopped closes its sources, which go to the other one, and stay there when it is back."""
+    hop = next_hop()
+    control = str(tmp_path / "control")
+    with Stoppable(program, tmp_path, [{"servers": [hop.port]}], control=control) as first:
+        first.start()
+        front = balancer(first, relay([{"servers": [hop.port]}]))
+        sources = [Source(front.port) for _ in range(4)]
+        for source in sources:
+            source.ask()
+        ports = [source.stream.link.getsockname()[1] for source in sources]
+        mine = [source for source, port in zip(sources, ports) if port in front.sources("one")]
+        assert 0 < len(mine) < 4 and front.sources("one") | front.sources("two") == set(ports)
+        front.tell("set server sources/one state drain")
+        for source in mine:
+            source.ask()  # a drain at haproxy closes nothing
+        front.tell("set server sources/one state ready")
+        assert first.stop(30).told[-1] == "all is delivered"
+        assert all(source.is_closed() for source in mine)
+        front.await_state("one", "DOWN")
+        again = [Source(front.port) for _ in mine]
+        first.start()
+        front.await_state("one", "UP")
+        for source in again:
+            source.ask()
+        assert front.sources("one") == set() and len(front.sources("two")) == 4
+        with Source(front.port) as source:
+            source.ask()
+            assert front.sources("one") == {source.stream.link.getsockname()[1]}

@@ -86,7 +86,11 @@ def test_cautions(told, tmp_path):
     foolish = [
         (f"listen and monitor are both {one}", {"listen": one, "monitor": one}, {}),
         (f"server {one} is the relay itself", {"listen": one}, {"servers": [int(one.rpartition(":")[2])]}),
-        ("chunk_limit 2000 above total_limit 1000", {"listen": one}, {"chunk_limit": 2000, "total_limit": 1000}),
+        (
+            "chunk_limit 3000 above total_limit 2000",
+            {"listen": one, "message_limit": 1024},
+            {"chunk_limit": 3000, "total_limit": 2000},
+        ),
         ("workers 1 for servers 2", {"listen": one}, {"servers": [9, 10]}),
     ]
     for words, relay, output in foolish:

@@ -19,7 +19,7 @@ DRAINS = 10  # seconds
 MORE = 3  # seconds that sources send on once memory was refused
 SENDS = 60  # seconds that they send at the most
 REFUSED = re.compile(r"^(?:memory: |source closed: .* Memory$)", re.MULTILINE)
-UNREACHED = re.compile(r"^server lost: .* Connect$", re.MULTILINE)
+UNREACHED = re.compile(r"^server lost: .* Connect(?: [a-z]+)?$", re.MULTILINE)
 WAITS = {"flush_interval": 500, "retry_wait": 200, "retry_max": 1_000, "ack_wait": 60_000}
 SIZES = [100, 3_000]  # bytes of an entry
 

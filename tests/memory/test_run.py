@@ -87,7 +87,7 @@ def play(site, shim, tmp_path, seconds, one_in):
     assert len(traffic.notes.had) <= output.settled <= traffic.notes.came
     assert board.counts()["no-memory"] > 0, "no memory was refused"
     until(lambda: one.files() <= files + WORKERS, lambda: f"{one.files()} files are open, {files} at its start")
-    names = set(re.findall(r"^(?:source closed|server lost): .* (\w+)$", one.journal(), re.MULTILINE))
+    names = set(re.findall(r"^(?:source closed|server lost): .* ([A-Z]\w+)(?: [a-z]+)?$", one.journal(), re.MULTILINE))
     assert names <= NAMES, names
     return traffic
 

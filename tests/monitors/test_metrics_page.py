@@ -1,8 +1,12 @@
 """The metrics page: what it says, who serves it, and that Prometheus reads it."""
 
 import json
+import os
+import pathlib
+import re
 import shutil
 import subprocess
+import sys
 import time
 import urllib.error
 import urllib.parse
@@ -10,9 +14,10 @@ import urllib.request
 
 import pytest
 
+from documents import text_of
 from exposition import read_metrics
 from forward import HOST, connect
-from next_hop import acknowledge, hold
+from next_hop import acknowledge, hold, refuse_above
 from relay import TOP, Child, free_ports
 
 pytestmark = pytest.mark.quick
@@ -251,6 +256,121 @@ def test_start(relay, next_hop):
     samples = metrics(one)
     assert before <= value(samples, "start_time_seconds") <= time.time()
     assert abs(value(samples, "start_time_seconds") + value(samples, "uptime_seconds") - time.time()) < 3
+
+
+def test_what_runs(relay, next_hop):
+    """The version is the code's, and each output has its pattern, escaped."""
+    patterns = ["a.{b,c} d", 'a."\\', "**"]
+    one = relay([{"match": pattern, "servers": [next_hop().port]} for pattern in patterns], metrics=True)
+    samples = metrics(one)
+    version = re.search(r'VERSION: &str = "(.+)";', text_of("crates/fwd_monitor/src/version.rt"))[1]
+    assert value(samples, "build_info", version=version) == 1
+    shown = [dict(labels) for name, labels in samples if name == FRONT + "output_info"]
+    assert shown == [{"output": str(number), "match": pattern} for number, pattern in enumerate(patterns)]
+
+
+def test_bytes(relay, next_hop):
+    """The bytes of entries, as they are held: each is accepted once, settled once, and held between."""
+    hop = next_hop(answer=hold)
+    one = relay([{"servers": [hop.port]}], metrics=True)
+
+    def counts():
+        samples = metrics(one)
+        names = ["accepted_bytes_total", "settled_bytes_total", "held_bytes"]
+        return [value(samples, name, output="0") for name in names]
+
+    assert counts() == [0, 0, 0]
+    source = one.source()
+    source.send("a", [(1, {"n": 1}), (2, {"n": "x" * 100})])
+    hop.await_entries(2)
+    size = one.page()[0].bytes
+    assert size > 100
+    one.until(lambda: counts() == [size, 0, size], "they are not held")
+    source.send("b")
+    more = one.await_page(lambda it: it.accepted == 3).bytes - size
+    assert more > 0
+    one.until(lambda: counts() == [size + more, 0, size + more], "they are not held")
+    hop.release()
+    one.await_settled(3)
+    one.until(lambda: counts() == [size + more, size + more, 0], "they are not settled")
+
+
+def test_chunks_refused(relay, next_hop):
+    """As often as the journal says that a server seems to refuse a chunk."""
+    one = relay([{"servers": [next_hop(answer=refuse_above(500)).port]}], metrics=True)
+    assert value(metrics(one), "chunks_refused_total", output="0") == 0
+    one.source().send("large", [(1, {"n": "x" * 1_000})])
+    source = one.source()
+    one.until(lambda: source.ask("small") or one.lines("chunk refused: "), "no chunk is told as refused")
+
+    def counted():
+        told = one.lines("chunk refused: ")
+        return 0 < told <= value(metrics(one), "chunks_refused_total", output="0") <= one.lines("chunk refused: ")
+
+    one.until(counted, "it is not counted")
+
+
+def test_lines_left_out(relay, next_hop):
+    """Lines above ten of a subject in a second are counted."""
+    one = relay([{"servers": [next_hop().port]}], metrics=True)
+    assert value(metrics(one), "journal_lines_left_out_total") == 0
+    for _ in range(100):
+        one.source().stream.link.sendall(b"\xc1")
+    one.until(lambda: rising(metrics(one), "sources_closed_total") == {"Reserved": 100}, "not all are closed")
+    assert value(metrics(one), "journal_lines_left_out_total") > 0
+
+    def is_each_counted():
+        shown = re.findall(r"^source closed: \S+ Reserved$", one.journal(), re.MULTILINE)
+        return len(shown) + value(metrics(one), "journal_lines_left_out_total") == 100
+
+    one.until(is_each_counted, "the journal and the page are not of one mind")
+
+
+def test_process(relay, next_hop):
+    """What the system tells of the process, as it tells others."""
+    one = relay([{"servers": [next_hop().port]}], metrics=True)
+    sources = [one.source() for _ in range(10)]
+    one.until(lambda: value(metrics(one), "sources_open") == 10, "they are not open")
+    samples = {name: number for (name, _), number in metrics(one).items() if name.startswith("process_")}
+    proc = pathlib.Path(f"/proc/{one.process.pid}")
+    pages = int((proc / "statm").read_text().split()[1])
+    assert 0.5 < samples["process_resident_memory_bytes"] / (pages * os.sysconf("SC_PAGE_SIZE")) < 2
+    assert abs(samples["process_open_fds"] - len(os.listdir(proc / "fd"))) <= 1
+    limit = re.search(r"^Max open files +(\d+)", (proc / "limits").read_text(), re.MULTILINE)[1]
+    assert samples["process_max_fds"] == int(limit)
+    words = (proc / "stat").read_text().rpartition(")")[2].split()
+    ticks = os.sysconf("SC_CLK_TCK")
+    assert 0 <= (int(words[11]) + int(words[12])) / ticks - samples["process_cpu_seconds_total"] < 1
+    assert abs(samples["process_start_time_seconds"] - value(metrics(one), "start_time_seconds")) < 5
+    assert len(sources) == 10 and len(samples) == 5
+
+
+UNITS = ("seconds", "bytes", "entries", "chunks", "sources", "fds", "info", "out", "open", "limit", "draining", "lost")
+
+
+def test_names(relay, next_hop):
+    """Counters end in `_total` and nothing else does; a gauge's name ends in what it counts, or in what it says."""
+    one = relay([{"servers": [next_hop().port]}], metrics=True)
+    page = asked(one, "/metrics").decode()
+    kinds = dict(re.findall(r"^# TYPE (\S+) (\S+)$", page, re.MULTILINE))
+    assert len(kinds) > 30
+    assert {name for name, kind in kinds.items() if kind == "counter"} == {n for n in kinds if n.endswith("_total")}
+    assert [n for n, kind in kinds.items() if kind == "gauge" and n.rpartition("_")[2] not in UNITS] == []
+
+
+def test_dashboard(relay, next_hop):
+    """The example for Grafana is what its script writes, and asks for what a relay has."""
+    written = subprocess.run([sys.executable, TOP / "dev" / "dashboard.py", "--check"], capture_output=True, timeout=60)
+    assert (written.returncode, written.stderr) == (0, b"")
+    board = json.loads((TOP / "examples" / "grafana.json").read_text())
+    queries = [target["expr"] for panel in board["panels"] for target in panel.get("targets", [])]
+    asked_for = {name for query in queries for name in re.findall(r"((?:forward_relay|process)_[a-z_]+)\{", query)}
+    one = relay([{"servers": [next_hop(answer=hold).port]}], metrics=True)
+    one.source().send("a")
+    one.await_page(lambda it: it.accepted == 1)
+    there = {name for name, _ in metrics(one)}
+    assert len(asked_for) > 25 and asked_for <= there, asked_for - there
+    assert all(query.count(mark) == query.count(other) for query in queries for mark, other in ("()", "{}", "[]"))
 
 
 def test_both_pages_at_once(relay, next_hop):

@@ -96,6 +96,7 @@ def test_installed_to_purged(make, machine, tmp_path):
     assert machine.run("stat", "-c", "%U %a", SETTINGS) == "root 600\n"
     assert machine.run("getent", "passwd", "_forward_relay").endswith(":/nonexistent:/usr/sbin/nologin\n")
     machine.run("ls", "/lib/systemd/system/forward_relay.service", "/usr/share/doc/forward-relay/examples/haproxy.cfg")
+    machine.run("ls", "/usr/bin/forward_relay-sizing", "/usr/share/doc/forward-relay/OPERATING.md")
 
     machine.run("systemctl", "enable", "forward_relay")
     machine.run("sed", "-i", "s/^connections = 256/connections = 300/", SETTINGS)

@@ -11,7 +11,7 @@ import time
 
 import pytest
 
-from documents import TOP
+from documents import TOP, blocks, text_of
 from forward import HOST, Source
 from relay import free_ports, settings, until
 
@@ -117,10 +117,9 @@ def test_the_image(engine, program, next_hop, tmp_path):
     with Source(port) as source:
         for number in range(100):
             source.send(entries=[(1, {"n": number})])
-        told = engine.ran("exec", "relay", "forward_relay", "stop", "/etc/forward_relay/relay.toml")
-    assert told.stdout.splitlines()[-1] == "all is delivered"
-    # the container ends with the relay, and may end `stop` before that has its own status
-    assert told.returncode in (0, 137)
+        asked = engine.ran("exec", "relay", "forward_relay", "stop", "/etc/forward_relay/relay.toml")
+    assert asked.stdout.splitlines()[-1] == "all is delivered"
+    assert asked.returncode in (0, 137)  # the container ends with the relay, and may take the call with it
     assert [record["n"] for _, _, record in hop.entries()] == list(range(100))
     assert engine.run("wait", "relay") == "0\n"
     assert "stopped: all is delivered" in engine.ran("logs", "relay").stderr
@@ -144,34 +143,72 @@ def test_a_signal_ends_it_with_init(engine, program, tmp_path):
         assert engine.run("wait", f"signal{number}") == ("143\n" if init else "137\n")
 
 
-def test_the_log_driver(engine, busybox, stoppable, next_hop):
-    """Containers that log, each in one way of Docker's `fluentd` driver, with a relay that is stopped meanwhile.
+WAYS = [f"{ack}.{kind}" for ack in ("true", "false") for kind in ("true", "false")]  # request-ack and async
+
+
+def logging(way, port):
+    """The words of a container that logs to a port in one way of the driver."""
+    ack, kind = way.split(".")
+    options = {"address": f"{HOST}:{port}", "request-ack": ack, "async": kind}
+    words = [word for key, value in options.items() for word in ("--log-opt", f"fluentd-{key}={value}")]
+    return [*words, "--log-opt", f"tag={way}", "--log-driver=fluentd", "--network=host", "--name", way, "--detach"]
+
+
+@pytest.fixture
+def removed(engine):
+    """No container of the ways is left for the next test."""
+    yield
+    engine.ran("rm", "--force", *WAYS)
+
+
+def test_the_documented_call(engine, busybox, relay, next_hop):
+    """What OPERATING types has the relay get a line with nanoseconds, under a tag with the container's name."""
+    hop = next_hop()
+    one = relay([{"match": "docker.**", "servers": [hop.port]}])
+    (block,) = [block for block in blocks(text_of("docs/OPERATING.md")) if block.startswith("docker run ")]
+    for old, new in {":24224": f":{one.port}", "IMAGE": f"{busybox} /bin/busybox echo hello"}.items():
+        assert old in block
+        block = block.replace(old, new)
+    block = block.replace("docker run", "docker run --network=host --name documented")
+    subprocess.run(["sh", "-ec", block], env=os.environ | {"DOCKER_HOST": engine.host}, check=True, timeout=120)
+    ((tag, moment, record),) = hop.await_entries(1)
+    assert (tag, moment.code, record["log"]) == ("docker.documented", 0, "hello")
+
+
+def test_no_relay_at_the_start(engine, busybox, removed):
+    """Without a relay a container starts only if it logs asynchronously."""
+    (port,) = free_ports(1)
+    for way in WAYS:
+        ran = engine.ran("run", *logging(way, port), busybox, "/bin/busybox", "true")
+        assert (ran.returncode == 0) == way.endswith("true"), ran.stderr
+
+
+@pytest.mark.parametrize("how", ["stop", "kill"])
+def test_the_log_driver(engine, busybox, stoppable, next_hop, removed, how):
+    """Containers that log, each in one way of Docker's `fluentd` driver, with a relay that ends and starts meanwhile.
 
     Every line comes of those that ask. Of the others a line may be missing that was written between the last look at
-    its connection and the close: microseconds, at each stop.
+    its connection and the close of a stop: microseconds. A kill loses what they have under way.
     """
     hop = next_hop()
-    outputs = [{"match": "true.**", "flush_interval": 5}, {"flush_interval": 86_400_000}]
+    outputs = [{"match": "true.**", "flush_interval": 5}, {"flush_interval": 86_400_000 if how == "stop" else 0}]
     one = stoppable([output | {"servers": [hop.port], "full": "wait"} for output in outputs])
-    ways = [f"{ack}.{kind}" for ack in ("true", "false") for kind in ("true", "false")]
-    for way in ways:
-        ack, kind = way.split(".")
-        options = {"address": f"{HOST}:{one.port}", "request-ack": ack, "async": kind}
-        words = [word for key, value in options.items() for word in ("--log-opt", f"fluentd-{key}={value}")]
-        words += ["--log-opt", f"tag={way}", "--log-driver=fluentd", "--network=host", "--name", way, "--detach"]
+    for way in WAYS:
+        words = logging(way, one.port)
         engine.run("run", *words, busybox, "/bin/busybox", "sh", "-c", COMMAND.replace("busybox", "/bin/busybox"))
     for _ in range(4):
         time.sleep(1.5)
-        assert one.stop(60).status == one.ended() == 0
+        assert one.kill() < 0 if how == "kill" else one.stop(60).status == one.ended() == 0
         one.start()
-    for way in ways:
+    for way in WAYS:
         engine.run("wait", way)
     time.sleep(3)
     assert one.stop(60).status == 0
     came = collections.defaultdict(set)
     for tag, _, record in hop.entries():
         came[tag].add(record["log"])
-    missing = {way: [n for n in range(LINES) if f"line {n}" not in came[way]] for way in ways}
+    missing = {way: [n for n in range(LINES) if f"line {n}" not in came[way]] for way in WAYS}
     print(f"missing: {missing}")
-    for way in ways:
-        assert len(missing[way]) <= (0 if way.startswith("true") else 1), missing
+    for way in WAYS:
+        most = 0 if way.startswith("true") else 1 if how == "stop" else LINES
+        assert len(missing[way]) <= most, missing

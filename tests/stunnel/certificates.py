@@ -1,8 +1,10 @@
-"""Certificates made by openssl: an authority's, and those of the names that it vouches for."""
+"""Certificates as OPERATING makes them by openssl: an authority's, and those of the names that it vouches for."""
 
 import subprocess
 
-CONFIG = "[req]\ndistinguished_name = name\n[name]\n"
+from documents import blocks, section, text_of
+
+NAMES = "relay.example source.example"
 
 
 class Authority:
@@ -10,18 +12,20 @@ class Authority:
 
     def __init__(self, folder):
         self.folder = folder
-        (folder / "openssl.cnf").write_text(CONFIG)
-        self.make("ca", "basicConstraints=critical,CA:true")
+        text = section(text_of("docs/OPERATING.md"), "## TLS and names")
+        (block,) = [block for block in blocks(text) if block.startswith("openssl ")]
+        own, mark, names = block.partition("for name in ")
+        assert names.startswith(f"{NAMES};"), block
+        self.names = mark + names
+        self.run(own)
 
-    def make(self, name, extension, *more):
-        """Makes NAME.key and NAME.crt."""
-        key = ["-newkey", "ec", "-pkeyopt", "ec_paramgen_curve:prime256v1", "-nodes", "-keyout", f"{name}.key"]
-        words = ["openssl", "req", "-x509", "-config", "openssl.cnf", *key, "-out", f"{name}.crt", "-days", "2"]
-        words += ["-subj", f"/CN={name}", "-addext", extension, *more]
+    def run(self, script):
+        """Types commands into a shell in the folder."""
+        words = ["sh", "-ec", script]
         done = subprocess.run(words, cwd=self.folder, stdin=subprocess.DEVNULL, capture_output=True, timeout=60)
         assert done.returncode == 0, done.stderr
-        return self.folder / f"{name}.crt", self.folder / f"{name}.key"
 
     def vouch(self, name):
         """A certificate for a name, with its key."""
-        return self.make(name, f"subjectAltName=DNS:{name}", "-CA", "ca.crt", "-CAkey", "ca.key")
+        self.run(self.names.replace(NAMES, name))
+        return self.folder / f"{name}.crt", self.folder / f"{name}.key"

@@ -1,4 +1,5 @@
-//! The program: `forward_relay run CONFIG [TURNS] | stop CONFIG [SECONDS] | check CONFIG | replay`.
+//! The program: `forward_relay run CONFIG [TURNS] | stop CONFIG [SECONDS] | check CONFIG | replay |
+//! version | help`.
 #![tactic(auto)]
 
 use fwd_program::{Errors, Invocation, Progress, asked_log, run_all};

@@ -10,13 +10,14 @@ mod link;
 mod mailbox;
 mod reserve;
 mod signs;
+mod unconnected;
 mod waiting;
 mod wants;
 mod wire;
 
 pub use fault::WaitFault;
 pub use link::{TcpHub, TcpLink};
-pub use mailbox::{Mailbox, Notice, Notices, RefusedChunk};
+pub use mailbox::{DeniedLogin, Mailbox, Notice, Notices, RefusedChunk};
 pub use signs::Signs;
 pub use waiting::{SharedWait, WaitMode, WorkerWait, WorkerWaker};
 pub use wants::lacks_descriptors;

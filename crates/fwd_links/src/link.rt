@@ -4,8 +4,8 @@ ghost use Rattle.std.specs.Prelude.{◌≡◌, [], slice_get, IfOk};
 
 use crate::mailbox::Mailbox;
 use crate::signs::Signs;
+use crate::unconnected::unconnected;
 use crate::waiting::SharedWait;
-use crate::wants::{lacks_descriptors, lacks_memory};
 use crate::wire::Wire;
 use fwd_chunks::WriteSlices;
 use fwd_workers::{Hub, Link, LinkFault, Read};
@@ -101,9 +101,7 @@ impl<'a, N: Net> Hub for TcpHub<'a, N> {
         };
         match TcpLink::begin(self.net, rt, signs, wait, addr) {
             Ok(link) => Ok(link),
-            Err(error) if lacks_descriptors(&error) => Err(LinkFault::Descriptors),
-            Err(error) if lacks_memory(&error) => Err(LinkFault::Memory),
-            Err(_) => Err(LinkFault::Connect),
+            Err(error) => Err(unconnected(&error)),
         }
     }
 }

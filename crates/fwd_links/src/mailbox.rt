@@ -4,7 +4,7 @@ ghost use Rattle.std.specs.Prelude.{◌≡◌, [], false};
 ghost use Rattle.fwd_links.specs.Noting as noting;
 
 use crate::signs::Signs;
-use fwd_workers::{Refused, WorkerEvent};
+use fwd_workers::{Denial, Refused, WorkerEvent};
 use mio::Waker;
 use std::alloc::Global;
 use std::mem;
@@ -29,6 +29,14 @@ pub struct RefusedChunk {
     pub refused: Refused,
 }
 
+/// What a worker told of a server that does not let it in.
+#[derive(Clone, Copy)]
+pub struct DeniedLogin {
+    /// The number of the worker's output.
+    pub output: u16,
+    pub denial: Denial,
+}
+
 /// What workers told since the reader last asked.
 #[derive(Drop)]
 pub struct Notices {
@@ -36,6 +44,8 @@ pub struct Notices {
     pub all: Vec<Notice>,
     /// The chunks that servers seem to refuse, in that order.
     pub refused: Vec<RefusedChunk>,
+    /// Why servers do not let workers in, as they say.
+    pub denied: Vec<DeniedLogin>,
     /// Memory was refused for more of them.
     pub missed: bool,
 }
@@ -50,6 +60,7 @@ impl Notices {
         Notices {
             all: Vec::new(alloc),
             refused: Vec::new(alloc),
+            denied: Vec::new(alloc),
             missed: false,
         }
     }
@@ -102,6 +113,17 @@ impl Mailbox {
     /// of the system.
     pub fn tell<R: Wait>(&self, rt: &R, notice: Notice) {
         self.notices.lock(rt).note(notice);
+        self.call();
+    }
+
+    /// The same of a server that is lost, since it did not let the worker in: what it says of that
+    /// comes with it. Where memory is refused that is not told.
+    pub fn tell_denied<R: Wait>(&self, rt: &R, notice: Notice, denial: Denial) {
+        let output = notice.output;
+        let mut guard = self.notices.lock(rt);
+        let notices = &mut *guard;
+        let _ = notices.denied.push(DeniedLogin { output, denial });
+        notices.note(notice);
         self.call();
     }
 

@@ -220,6 +220,16 @@ impl EventLoop {
         self.write_all(rt, router, observer, now);
     }
 
+    /// An observer is told of sources that have said nothing by a moment (milliseconds), each once.
+    fn tell_silent<W: Observer>(&mut self, observer: &mut W, now: u64) {
+        for _ in 0..u32::MAX {
+            let Some(peer) = self.connections.next_silent(now) else {
+                return;
+            };
+            observer.observe(JournalEvent::Silent { peer });
+        }
+    }
+
     /// Closes the connections that had their time at a moment (milliseconds), and have not shown
     /// what they are.
     pub fn close_late<R: Wait, W: Observer>(
@@ -229,6 +239,7 @@ impl EventLoop {
         observer: &mut W,
         now: u64,
     ) {
+        self.tell_silent(observer, now);
         for _ in 0..u32::MAX {
             let Some(key) = self.connections.next_late(now) else {
                 return;
@@ -465,7 +476,7 @@ pub(crate) fn tell_all<W: Observer>(
         observer.observe(JournalEvent::Memory(MemoryFor::News));
     }
     for notice in &notices.all {
-        if let Some(event) = lost_servers.hear(outputs, notice) {
+        if let Some(event) = lost_servers.hear(outputs, notice, &notices.denied) {
             observer.observe(event);
         }
     }

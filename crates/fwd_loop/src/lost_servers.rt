@@ -1,8 +1,8 @@
 //! Which servers are lost.
 
-use fwd_links::{Notice, RefusedChunk};
+use fwd_links::{DeniedLogin, Notice, RefusedChunk};
 use fwd_routing::{JournalEvent, Output};
-use fwd_workers::{Refused, WorkerEvent};
+use fwd_workers::{LossReason, Refused, TextFront, WorkerEvent};
 use std::alloc::{AllocError, Global};
 use std::net::SocketAddr;
 
@@ -43,6 +43,15 @@ pub(crate) fn fact_of(outputs: &[Output], refusal: &RefusedChunk) -> Option<Jour
     })
 }
 
+/// What a server said that was lost for this reason, if it did not let a worker in.
+fn said_by(denied: &[DeniedLogin], id: ServerId, why: LossReason) -> Option<TextFront> {
+    if !why.is_denial() {
+        return None;
+    }
+    let said = denied.iter().find(|it| it.output == id.output && it.denial.server == id.server)?;
+    Some(said.denial.reason)
+}
+
 /// The servers that were lost, and settled no chunk since.
 #[derive(Drop)]
 pub(crate) struct LostServers {
@@ -60,8 +69,13 @@ impl LostServers {
         Ok(LostServers { lost })
     }
 
-    /// What there is to tell of a worker's notice, if anything.
-    pub fn hear(&mut self, outputs: &[Output], notice: &Notice) -> Option<JournalEvent> {
+    /// What there is to tell of a worker's notice, if anything, where servers denied logins so.
+    pub fn hear(
+        &mut self,
+        outputs: &[Output],
+        notice: &Notice,
+        denied: &[DeniedLogin],
+    ) -> Option<JournalEvent> {
         let output = notice.output;
         match notice.news {
             WorkerEvent::Settled { number: _, server } => {
@@ -88,6 +102,7 @@ impl LostServers {
                     output,
                     server,
                     why,
+                    said: said_by(denied, id, why),
                 })
             }
         }

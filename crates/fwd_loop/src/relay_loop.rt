@@ -22,6 +22,7 @@ use crate::readers::{EventQueue, ReaderDesk};
 use crate::threads::{Beside, Started};
 use crate::turns::{Opened, Own, Shared, Turns, close_all, open};
 use crate::worker_pools::{NextHop, RunOrigin, WorkerPools};
+use fwd_base::Text;
 use fwd_chunks::Report;
 use fwd_config::config_of;
 use fwd_core::{Config, OutputConfig};
@@ -382,6 +383,15 @@ impl Loop {
         let control = Control::open(rt, relay.alloc, &event_loop.poll, path)?;
         event_loop.control = Some(control);
         Ok(relay)
+    }
+
+    /// The same relay, whose metrics page names the match patterns of its outputs so.
+    pub fn with_patterns(self, patterns: Vec<Text>) -> Loop
+        ensures { result ≡ self }
+    {
+        let mut relay = self;
+        relay.shared.tally.patterns = patterns;
+        relay
     }
 
     /// The relay of these settings, which cannot be asked to stop.

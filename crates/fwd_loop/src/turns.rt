@@ -409,7 +409,10 @@ impl<'a, R: Wait + Clock> Turns<'a, R> {
                 observer.observe(JournalEvent::Memory(MemoryFor::Monitor));
             }
         }
-        let figures = reader.figures(self.desks, now);
+        if !reader.event_loop.connections.is_page_due() {
+            return;
+        }
+        let figures = observer.complete(reader.figures(self.desks, now));
         reader
             .event_loop
             .connections

@@ -11,7 +11,7 @@ use fwd_core::{AckTerms, OutputConfig, OutputState};
 use fwd_handshake::Login;
 use fwd_links::WorkerWaker;
 use fwd_routing::{FlushTimer, Hearers, Output, WaitingLine, WaitingTally};
-use fwd_workers::{Locked, Plain, SharedOutput, Worker};
+use fwd_workers::{Locked, Plain, ServerOrder, SharedOutput, Worker};
 use std::alloc::{AllocError, Global};
 use std::marker::Model;
 use std::net::{Net, SocketAddr};
@@ -101,12 +101,10 @@ impl WorkerPools {
             login,
         } = config;
         let state = OutputState::new(self.alloc, limits, run.id, number, standby.as_slice())?;
-        let shared = SharedOutput::new(Locked::new(
-            self.alloc,
-            state,
-            Plain::new(0),
-            Plain::new(0),
-        ));
+        let (wait, most) = (limits.retry_wait, limits.retry_max);
+        let order = ServerOrder::new(self.alloc, standby.as_slice(), wait, most)?;
+        let locked = Locked::new(self.alloc, state, Plain::new(0), Plain::new(0));
+        let shared = SharedOutput::new(locked.with_order(order));
         let login = Arc::new(self.alloc, login)?;
         let pool = Pool {
             random: run.random,

@@ -7,7 +7,7 @@ use fwd_links::{
     Mailbox, Notice, RefusedChunk, SharedWait, TcpHub, WaitMode, WorkerWait, WorkerWaker,
 };
 use fwd_routing::Output;
-use fwd_workers::{Gate, Pass, Place, Refused, Worker, WorkerEvent};
+use fwd_workers::{Denial, Gate, Pass, Place, Refused, Worker, WorkerEvent};
 use std::alloc::Global;
 use std::net::Net;
 use std::rt::Clock;
@@ -43,6 +43,8 @@ struct WorkerGate<'a> {
     output: &'a Output,
     wait: &'a SharedWait,
     next: Next,
+    /// Why the server that is lost in this turn does not let it in, as that says.
+    denial: Option<Denial>,
 }
 
 impl<'a> WorkerGate<'a> {
@@ -134,7 +136,10 @@ impl<'a> Gate for WorkerGate<'a> {
             worker,
             news,
         };
-        self.mailbox.tell(rt, notice);
+        match self.denial.take() {
+            None => self.mailbox.tell(rt, notice),
+            Some(denial) => self.mailbox.tell_denied(rt, notice, denial),
+        }
         self.note(news);
         if let WorkerEvent::Settled { .. } = news {
             for (reader, desk) in (1..usize::MAX).zip(self.others) {
@@ -143,6 +148,10 @@ impl<'a> Gate for WorkerGate<'a> {
                 }
             }
         }
+    }
+
+    fn hear_denial<R: Wait>(&mut self, _rt: &R, _worker: u16, denial: Denial) {
+        self.denial = Some(denial);
     }
 
     fn hear_refused<R: Wait>(&mut self, rt: &R, _worker: u16, refused: Refused) {
@@ -200,6 +209,7 @@ impl WorkerThread {
             output: own,
             wait,
             next: Next::Later(0),
+            denial: None,
         };
         let mut clock = RunClock::new(rt, start);
         self.wait.lock(rt).refill(mailbox.signs());

@@ -27,6 +27,7 @@ use Rattle.fwd_base.specs.declared.report.Report.{Report}
 use Rattle.fwd_base.specs.declared.tag_count.TagCount.{TagCount}
 use Rattle.fwd_monitor.specs.declared.figures.Figures.{Figures}
 use Rattle.fwd_monitor.specs.declared.figures.OutputFigures.{OutputFigures}
+use Rattle.fwd_monitor.specs.declared.figures.ProcessFigures.{ProcessFigures}
 use Rattle.fwd_monitor.specs.declared.limits.TheConstants.{MAX_TAGS}
 use Rattle.fwd_monitor.specs.declared.measure.Measure.{Measure}
 use Rattle.fwd_monitor.specs.declared.measure.Measure.TheVariants.{
@@ -46,21 +47,31 @@ use Rattle.fwd_monitor.specs.declared.measure.OutputFigure.TheVariants.{
 use Rattle.fwd_monitor.specs.declared.measure.TagMeasure.{TagMeasure}
 use Rattle.fwd_monitor.specs.declared.measure.TagMeasure.TheVariants.{Entries, EntryBytes}
 use Rattle.fwd_monitor.specs.declared.tally.RelayTally.{RelayTally}
-use Rattle.fwd_monitor.specs.Samples.{escaped, gauge, head_lines_of, output_line}
+use Rattle.fwd_monitor.specs.declared.version.TheConstants.{VERSION}
+use Rattle.fwd_monitor.specs.Samples.{
+  counter,
+  escaped,
+  gauge,
+  gauge_if,
+  head_lines_of,
+  output_line,
+  seconds_if,
+  word_line,
+}
 use Rattle.fwd_monitor.specs.Tallies.{output_tally_text, relay_tally_text}
 
--- ---- the labels of tags
+-- ---- the labels of tags and patterns
 
--- a tag that may stand as it is: UTF-8 without a zero byte, which readers take for the page's end
+-- a text that may stand as it is: UTF-8 without a zero byte, which readers take for the page's end
 abbrev pub is_plain : List ℕ → Bool
 is_plain tag = is_utf8 tag && not (list_any (λ b. b == 0) tag)
 
--- the label of a tag: in hexadecimal digits, under another name, where it may not stand as it is
-abbrev pub tag_label : List ℕ → List ℕ
-tag_label tag =
-    if is_plain tag
-    then codes "tag=\"" ++ escaped tag ++ codes "\""
-    else codes "tag_hex=\"" ++ encode_lower tag ++ codes "\""
+-- a label of this name: in hexadecimal digits, under another name, where it may not stand as it is
+abbrev pub text_label : (name : List ℕ) → List ℕ → List ℕ
+text_label name text =
+    if is_plain text
+    then name ++ codes "=\"" ++ escaped text ++ codes "\""
+    else name ++ codes "_hex=\"" ++ encode_lower text ++ codes "\""
 
 -- ---- what is said of each output
 
@@ -138,6 +149,29 @@ by_figure figure outputs =
     head_lines_of (figure_name figure) (codes "gauge") (figure_help figure)
     ++ flat_map (figure_line figure) (enumerate_from 0 outputs)
 
+-- ---- which tags each output takes
+
+-- the sample that says so
+unfoldable pub info_line : (name : List ℕ) → ℕ × OutputFigures → List ℕ
+info_line name (output, f) =
+    name ++ codes "{output=\"" ++ decimal output ++ codes "\","
+    ++ text_label (codes "match") f.pattern ++ codes "} 1\n"
+
+-- the samples of all outputs
+unfoldable pub info_lines : (name : List ℕ) → List OutputFigures → List ℕ
+info_lines name outputs = flat_map (info_line name) (enumerate_from 0 outputs)
+
+-- what stands in front of them
+abbrev pub info_head : List ℕ
+info_head =
+    head_lines_of (codes "forward_relay_output_info") (codes "gauge")
+    (codes "The match pattern of an output: always 1.")
+
+-- the metric that says so
+abbrev pub infos_text : List OutputFigures → List ℕ
+infos_text outputs =
+    info_head ++ info_lines (codes "forward_relay_output_info") outputs
+
 -- ---- what is said of each tag
 
 -- the name of a metric that each tag has
@@ -159,7 +193,8 @@ tag_measured EntryBytes t = t.bytes
 abbrev pub tag_sample : TagMeasure → (output : ℕ) → TagCount → List ℕ
 tag_sample measure output t =
     tag_measure_name measure ++ codes "{output=\"" ++ decimal output ++ codes "\","
-    ++ tag_label t.tag ++ codes "} " ++ decimal (tag_measured measure t) ++ codes "\n"
+    ++ text_label (codes "tag") t.tag ++ codes "} " ++ decimal (tag_measured measure t)
+    ++ codes "\n"
 
 -- the tags of an output, each with the output's number
 abbrev pub tags_of : ℕ × Report → List (ℕ × TagCount)
@@ -207,20 +242,26 @@ output_figures_text outputs =
     by_figure TotalLimit outputs ++ by_figure OldestAge outputs
     ++ by_figure WaitingSources outputs ++ by_figure WaitingBytes outputs
 
+-- which version runs
+unfoldable pub build_text : List ℕ
+build_text =
+    head_lines_of (codes "forward_relay_build_info") (codes "gauge")
+    (codes "The version that runs: always 1.")
+    ++ word_line (codes "forward_relay_build_info{version=\"") VERSION.now 1
+
 -- when the relay started, where the clock of the system told it
-unfoldable pub start_text : Option ℕ → List ℕ
-start_text None = []
-start_text (Some start) =
-    gauge (codes "forward_relay_start_time_seconds")
+abbrev pub start_text : Option ℕ → List ℕ
+start_text start =
+    gauge_if (codes "forward_relay_start_time_seconds")
     (codes "When the relay started, in seconds since 1970.") start
 
 -- what a gauge says of a flag
 abbrev pub flag_value : Bool → ℕ
 flag_value flag = if flag then 1 else 0
 
--- what is said of the relay itself
-abbrev pub figures_text : Figures → List ℕ
-figures_text f =
+-- what is known of the relay itself
+unfoldable pub known_text : Figures → List ℕ
+known_text f =
     start_text f.start
     ++ gauge (codes "forward_relay_uptime_seconds")
     (codes "Whole seconds since the relay started.") (f.uptime / 1000)
@@ -232,11 +273,38 @@ figures_text f =
     (codes "Whether the relay was asked to stop, and delivers what it holds: 1 or 0.")
     (flag_value f.is_draining)
 
+-- what is said of the process, as other programs say it, where the system told it
+unfoldable pub process_text : ProcessFigures → List ℕ
+process_text p =
+    gauge_if (codes "process_resident_memory_bytes")
+    (codes "Memory that the process has, in bytes.") p.resident
+    ++ gauge_if (codes "process_open_fds")
+    (codes "Files that the process has open.") p.open_files
+    ++ gauge_if (codes "process_max_fds")
+    (codes "The most files that the process may have open.") p.most_files
+    ++ seconds_if (codes "process_cpu_seconds_total") (codes "counter")
+    (codes "Processor time of the process, in seconds.") p.processor
+    ++ seconds_if (codes "process_start_time_seconds") (codes "gauge")
+    (codes "When the process started, in seconds since 1970.") p.start
+
+-- what is said of the relay itself
+abbrev pub figures_text : Figures → List ℕ
+figures_text f =
+    build_text ++ known_text f
+    ++ counter (codes "forward_relay_journal_lines_left_out_total")
+    (codes "Lines that the journal left out, and events that could not be told.") f.left_out
+    ++ process_text f.process
+
 -- what is said of the outputs
 abbrev pub outputs_text : List Report → List ℕ
 outputs_text reports =
     by_output Accepted reports ++ by_output Settled reports ++ by_output Held reports
     ++ by_output HeldBytes reports ++ by_output Chunks reports
+
+-- its end: which tags each output takes, and what is held of them
+unfoldable pub end_text : List OutputFigures → List Report → List ℕ
+end_text outputs reports =
+    infos_text outputs ++ by_tag Entries reports ++ by_tag EntryBytes reports
 
 -- the page, from what is known of the relay and of its outputs, the reports, and what was counted
 -- since the relay started
@@ -245,4 +313,4 @@ metrics_of figures outputs reports tally =
     figures_text figures ++ relay_tally_text tally
     ++ outputs_text reports ++ output_figures_text outputs
     ++ output_tally_text tally.outputs.items tally.servers.items
-    ++ left_out_text reports ++ by_tag Entries reports ++ by_tag EntryBytes reports
+    ++ left_out_text reports ++ end_text outputs reports

@@ -1,6 +1,6 @@
 -- The lines of Prometheus' text format 0.0.4: each metric has two lines that say what it is, and
 -- behind them a line for each of its samples.
-use Rattle.std.specs.Prelude.{ℕ, ◌==◌, List, [], ◌∷◌, ◌++◌, codes, if◌then◌else◌}
+use Rattle.std.specs.Prelude.{ℕ, ◌/◌, ◌%◌, ◌==◌, List, [], ◌∷◌, ◌++◌, Option, Some, None, codes, if◌then◌else◌}
 use Rattle.std.specs.List.{flat_map}
 use Rattle.std.specs.Fmt.{decimal}
 use Rattle.httparse.specs.Ascii.{line_feed}
@@ -15,6 +15,28 @@ head_lines_of name kind help =
 unfoldable pub gauge : (name help : List ℕ) → ℕ → List ℕ
 gauge name help value =
     head_lines_of name (codes "gauge") help ++ line_text (name ∷ decimal value ∷ [])
+
+-- a metric that has one value, which only rises
+unfoldable pub counter : (name help : List ℕ) → ℕ → List ℕ
+counter name help value =
+    head_lines_of name (codes "counter") help ++ line_text (name ∷ decimal value ∷ [])
+
+-- a metric that has one value, where that is known
+unfoldable pub gauge_if : (name help : List ℕ) → Option ℕ → List ℕ
+gauge_if name help None = []
+gauge_if name help (Some value) = gauge name help value
+
+-- a sample of hundredths, as a number of units with two digits behind a point
+unfoldable pub hundredths_line : (name : List ℕ) → ℕ → List ℕ
+hundredths_line name value =
+    name ++ codes " " ++ decimal (value / 100) ++ codes "." ++ decimal (value % 100 / 10)
+    ++ decimal (value % 10) ++ codes "\n"
+
+-- a metric of seconds that has one value in hundredths, where that is known
+unfoldable pub seconds_if : (name kind help : List ℕ) → Option ℕ → List ℕ
+seconds_if name kind help None = []
+seconds_if name kind help (Some value) =
+    head_lines_of name kind help ++ hundredths_line name value
 
 -- a sample of an output
 abbrev pub output_line : (name : List ℕ) → (output value : ℕ) → List ℕ

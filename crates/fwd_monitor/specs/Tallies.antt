@@ -5,6 +5,13 @@ use Rattle.std.specs.List.{enumerate_from, flat_map}
 use Rattle.std.specs.Fmt.{decimal}
 use Rattle.std.specs.Net.Text.{socket_text}
 use Rattle.fwd_monitor.specs.Samples.{head_lines_of, output_line, word_line}
+use Rattle.fwd_monitor.specs.declared.measure.OutputCount.{OutputCount}
+use Rattle.fwd_monitor.specs.declared.measure.OutputCount.TheVariants.{
+  WithoutAck,
+  AcceptedBytes,
+  SettledBytes,
+  ChunksRefused,
+}
 use Rattle.fwd_monitor.specs.declared.measure.ServerMeasure.{ServerMeasure}
 use Rattle.fwd_monitor.specs.declared.measure.ServerMeasure.TheVariants.{
   Lost,
@@ -130,20 +137,38 @@ refused_text outputs =
     refused (codes "forward_relay_requests_refused_total")
     (codes "Requests that an output did not admit, by why.") outputs
 
--- the entries that an output accepted of sources that asked for no acknowledgement
-abbrev pub without_ack_sample : (name : List ℕ) → ℕ × OutputTally → List ℕ
-without_ack_sample name (output, t) = output_line name output t.without_ack
+-- the name of a counter that each output has
+abbrev pub count_name : OutputCount → List ℕ
+count_name WithoutAck = codes "forward_relay_accepted_without_ack_entries_total"
+count_name AcceptedBytes = codes "forward_relay_accepted_bytes_total"
+count_name SettledBytes = codes "forward_relay_settled_bytes_total"
+count_name ChunksRefused = codes "forward_relay_chunks_refused_total"
 
--- a counter that says so of each output
-unfoldable pub without_ack : (name help : List ℕ) → List OutputTally → List ℕ
-without_ack name help outputs =
-    counter_head name help ++ flat_map (without_ack_sample name) (enumerate_from 0 outputs)
+-- what it is
+abbrev pub count_help : OutputCount → List ℕ
+count_help WithoutAck = codes "Entries accepted of sources that asked for no acknowledgement."
+count_help AcceptedBytes = codes "Bytes of the entries ever accepted, as total_limit counts them."
+count_help SettledBytes =
+    codes "Bytes of the entries acknowledged by the next hop, as total_limit counts them."
+count_help ChunksRefused =
+    codes "Losses of chunks that a server seems to refuse, as the journal tells them."
 
--- the metric that says so
-abbrev pub without_ack_text : List OutputTally → List ℕ
-without_ack_text outputs =
-    without_ack (codes "forward_relay_accepted_without_ack_entries_total")
-    (codes "Entries accepted of sources that asked for no acknowledgement.") outputs
+-- its value
+abbrev pub counted : OutputCount → OutputTally → ℕ
+counted WithoutAck t = t.without_ack
+counted AcceptedBytes t = t.accepted_bytes
+counted SettledBytes t = t.settled_bytes
+counted ChunksRefused t = t.chunks_refused
+
+-- its sample of an output
+abbrev pub count_line : OutputCount → ℕ × OutputTally → List ℕ
+count_line count (output, t) = output_line (count_name count) output (counted count t)
+
+-- the counter, with a sample for each output
+unfoldable pub by_count : OutputCount → List OutputTally → List ℕ
+by_count count outputs =
+    counter_head (count_name count) (count_help count)
+    ++ flat_map (count_line count) (enumerate_from 0 outputs)
 
 -- ---- what is said of each server
 
@@ -217,5 +242,6 @@ relay_tally_text t = closed_text t.closed ++ over_limit_text t.over_limit ++ mem
 -- what was counted of its outputs and their servers
 abbrev pub output_tally_text : List OutputTally → List ServerTally → List ℕ
 output_tally_text outputs servers =
-    refused_text outputs ++ without_ack_text outputs ++ by_server Lost servers
+    refused_text outputs ++ by_count WithoutAck outputs ++ by_count AcceptedBytes outputs
+    ++ by_count SettledBytes outputs ++ by_count ChunksRefused outputs ++ by_server Lost servers
     ++ by_server Acknowledged servers ++ by_server Resent servers ++ by_server IsLost servers

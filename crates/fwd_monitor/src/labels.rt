@@ -2,30 +2,36 @@
 
 ghost use Rattle.std.specs.Prelude.{◌≡◌, ◌++◌, OnOk, codes};
 ghost use Rattle.std.specs.Str.{is_utf8};
-ghost use Rattle.fwd_monitor.specs.Metrics.{is_plain, tag_label};
+ghost use Rattle.fwd_monitor.specs.Metrics.{is_plain, text_label};
 ghost use Rattle.fwd_monitor.specs.Samples.{escaped, escaped_byte};
 
 use std::alloc::{AllocError, Global};
 
-/// Adds the label of a tag, without a comma or a brace.
-pub(crate) fn push_label(alloc: Global, page: &mut Vec<u8>, tag: &[u8]) -> Result<(), AllocError>
-    ensures { OnOk result (page.new.items ≡ page.old.items ++ tag_label tag.now) }
+/// Adds a label of this name, without a comma or a brace.
+pub(crate) fn push_label(
+    alloc: Global,
+    page: &mut Vec<u8>,
+    name: &str,
+    text: &[u8],
+) -> Result<(), AllocError>
+    ensures { OnOk result (page.new.items ≡ page.old.items ++ text_label name.now text.now) }
 {
-    if is_plain(tag) {
-        push_plain(page, tag)
+    if is_plain(text) {
+        push_plain(page, name, text)
     } else {
-        let label = format!(in alloc; "tag_hex=\"{}\"", hex::encode(alloc, tag)?)?;
+        let label = format!(in alloc; "{name}_hex=\"{}\"", hex::encode(alloc, text)?)?;
         page.extend_from_slice(label.as_bytes())
     }
 }
 
-/// Adds the label of a tag that may stand as it is.
-fn push_plain(page: &mut Vec<u8>, tag: &[u8]) -> Result<(), AllocError>
-    ensures { OnOk result
-        (page.new.items ≡ page.old.items ++ codes "tag=\"" ++ escaped tag.now ++ codes "\"") }
+/// Adds a label that may stand as it is.
+fn push_plain(page: &mut Vec<u8>, name: &str, text: &[u8]) -> Result<(), AllocError>
+    ensures { OnOk result (page.new.items
+        ≡ page.old.items ++ name.now ++ codes "=\"" ++ escaped text.now ++ codes "\"") }
 {
-    page.extend_from_slice(b"tag=\"")?;
-    for byte in tag {
+    page.extend_from_slice(name.as_bytes())?;
+    page.extend_from_slice(b"=\"")?;
+    for byte in text {
         push_escaped(page, *byte)?;
     }
     page.extend_from_slice(b"\"")
@@ -43,11 +49,11 @@ fn push_escaped(page: &mut Vec<u8>, byte: u8) -> Result<(), AllocError>
     }
 }
 
-/// Whether a tag may stand as it is.
-fn is_plain(tag: &[u8]) -> bool
-    ensures { result ≡ is_plain tag.now }
+/// Whether a text may stand as it is.
+fn is_plain(text: &[u8]) -> bool
+    ensures { result ≡ is_plain text.now }
 {
-    is_text(tag) && !tag.contains(&0)
+    is_text(text) && !text.contains(&0)
 }
 
 /// Whether bytes are UTF-8.

@@ -17,9 +17,10 @@ mod samples;
 mod status;
 mod tallies;
 mod tally;
+mod version;
 
 pub use answering::{answer, metrics_reply};
-pub use figures::{Figures, OutputFigures};
+pub use figures::{Figures, OutputFigures, ProcessFigures};
 pub use judging::{wants_metrics, wants_page};
 pub use laws::{head_limits, one_head, one_reply};
 pub use limits::{HEAD_LIMIT, MAX_HEADERS, MAX_TAGS};
@@ -30,3 +31,4 @@ pub use tally::{
     MemoryRefused, OutputTally, OverLimit, RelayTally, RequestsRefused, ServerTally, SessionsLost,
     SourcesClosed,
 };
+pub use version::VERSION;

@@ -14,12 +14,16 @@ ghost use Rattle.fwd_monitor.specs.Metrics.{
   tag_measured,
 };
 ghost use Rattle.fwd_monitor.specs.Tallies.{
+  count_help,
+  count_name,
+  counted,
   server_measure_help,
   server_measure_kind,
   server_measure_name,
 };
 
 use crate::figures::OutputFigures;
+use crate::tally::OutputTally;
 use fwd_base::{Counts, TagCount};
 
 /// What the metrics page says of each output.
@@ -167,6 +171,61 @@ impl TagMeasure {
         match self {
             TagMeasure::Entries => tag.held,
             TagMeasure::EntryBytes => tag.bytes,
+        }
+    }
+}
+
+/// What the metrics page counts of each output.
+#[derive(Clone, Copy)]
+pub(crate) enum OutputCount {
+    WithoutAck,
+    AcceptedBytes,
+    SettledBytes,
+    ChunksRefused,
+}
+
+impl OutputCount {
+    /// The metric's name.
+    pub fn name(self) -> &'static str
+        ensures { result.now ≡ count_name self }
+    {
+        match self {
+            OutputCount::WithoutAck => "forward_relay_accepted_without_ack_entries_total",
+            OutputCount::AcceptedBytes => "forward_relay_accepted_bytes_total",
+            OutputCount::SettledBytes => "forward_relay_settled_bytes_total",
+            OutputCount::ChunksRefused => "forward_relay_chunks_refused_total",
+        }
+    }
+
+    /// What it is.
+    pub fn help(self) -> &'static str
+        ensures { result.now ≡ count_help self }
+    {
+        match self {
+            OutputCount::WithoutAck => {
+                "Entries accepted of sources that asked for no acknowledgement."
+            }
+            OutputCount::AcceptedBytes => {
+                "Bytes of the entries ever accepted, as total_limit counts them."
+            }
+            OutputCount::SettledBytes => {
+                "Bytes of the entries acknowledged by the next hop, as total_limit counts them."
+            }
+            OutputCount::ChunksRefused => {
+                "Losses of chunks that a server seems to refuse, as the journal tells them."
+            }
+        }
+    }
+
+    /// Its value.
+    pub fn of(self, tally: &OutputTally) -> u64
+        ensures { result ≡ counted self tally.now }
+    {
+        match self {
+            OutputCount::WithoutAck => tally.without_ack,
+            OutputCount::AcceptedBytes => tally.accepted_bytes,
+            OutputCount::SettledBytes => tally.settled_bytes,
+            OutputCount::ChunksRefused => tally.chunks_refused,
         }
     }
 }

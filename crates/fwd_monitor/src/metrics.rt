@@ -1,38 +1,50 @@
 //! The metrics page, in Prometheus' text format.
 
-ghost use Rattle.std.specs.Prelude.{◌≡◌, ◌++◌, IfOk, OnOk, take};
+ghost use Rattle.std.specs.Prelude.{◌≡◌, ◌++◌, IfOk, OnOk, codes, take};
 ghost use Rattle.std.specs.List.{flat_map};
 ghost use Rattle.std.specs.String.{string_bytes};
 ghost use Rattle.fwd_monitor.specs.Metrics.{
+  build_text,
   by_figure,
   by_output,
   by_tag,
+  end_text,
   figures_text,
   flag_value,
+  info_head,
+  info_line,
+  info_lines,
+  infos_text,
+  known_text,
   left_out,
   left_out_text,
   metrics_of,
   output_figures_text,
   outputs_text,
+  process_text,
   start_text,
   tag_sample,
+  text_label,
 };
 
-use crate::figures::{Figures, OutputFigures};
+use crate::figures::{Figures, OutputFigures, ProcessFigures};
 use crate::labels::push_label;
 use crate::limits::MAX_TAGS;
 use crate::measure::{Measure, OutputFigure, TagMeasure};
-use crate::samples::{push_gauge, push_head, push_sample};
+use crate::samples::{
+    push_counter, push_gauge, push_gauge_if, push_head, push_sample, push_seconds_if, push_word,
+};
 use crate::tallies::{push_output_tally, push_relay_tally};
 use crate::tally::RelayTally;
-use fwd_base::{Report, TagCount};
+use crate::version::VERSION;
+use fwd_base::{Report, TagCount, Text};
 use std::alloc::{AllocError, Global};
 
-/// The metrics page in Prometheus' text format 0.0.4: what is known of the relay itself and what it
-/// counted, what each output has to do with, the most bytes that it holds, how old its oldest chunk
-/// is and what waits to be taken, what was counted of it and of its servers, and what is held of
-/// the first `MAX_TAGS` tags, with how many of each output's are left out. Outputs are numbered
-/// from 0 on. Its only error is out of memory.
+/// The metrics page in Prometheus' text format 0.0.4: what is known of the relay and its process
+/// and what it counted, what each output has to do with, the most bytes that it holds, how old its
+/// oldest chunk is and what waits to be taken, what was counted of it and of its servers, which
+/// tags each output takes, and what is held of the first `MAX_TAGS` tags, with how many of each
+/// output's are left out. Outputs are numbered from 0 on. Its only error is out of memory.
 pub fn metrics_page(
     alloc: Global,
     figures: Figures,
@@ -51,14 +63,45 @@ pub fn metrics_page(
     push_output_tally(alloc, &mut text, tally)?;
     push_left_out(&mut text, reports)?;
     let mut page = text.into_bytes();
-    push_by_tag(alloc, &mut page, TagMeasure::Entries, reports)?;
-    push_by_tag(alloc, &mut page, TagMeasure::EntryBytes, reports)?;
+    push_end(alloc, &mut page, outputs, reports)?;
     Ok(page)
 }
 
-/// Adds what is known of the relay itself.
+/// Adds the end of the page: which tags each output takes, and what is held of them.
+fn push_end(
+    alloc: Global,
+    page: &mut Vec<u8>,
+    outputs: &[OutputFigures],
+    reports: &[Report],
+) -> Result<(), AllocError>
+    ensures { OnOk result
+        (page.new.items ≡ page.old.items ++ end_text outputs.now reports.now) }
+{
+    push_infos(alloc, page, outputs)?;
+    push_by_tag(alloc, page, TagMeasure::Entries, reports)?;
+    push_by_tag(alloc, page, TagMeasure::EntryBytes, reports)?;
+    Ok(())
+}
+
+/// Adds what is said of the relay itself.
 fn push_figures(text: &mut String, figures: Figures) -> Result<(), AllocError>
     ensures { OnOk result (string_bytes text.new ≡ string_bytes text.old ++ figures_text figures) }
+{
+    push_build(text)?;
+    push_known(text, figures)?;
+    push_counter(
+        text,
+        "forward_relay_journal_lines_left_out_total",
+        "Lines that the journal left out, and events that could not be told.",
+        figures.left_out,
+    )?;
+    push_process(text, figures.process)?;
+    Ok(())
+}
+
+/// Adds what is known of the relay itself.
+fn push_known(text: &mut String, figures: Figures) -> Result<(), AllocError>
+    ensures { OnOk result (string_bytes text.new ≡ string_bytes text.old ++ known_text figures) }
 {
     let Figures {
         start,
@@ -66,6 +109,8 @@ fn push_figures(text: &mut String, figures: Figures) -> Result<(), AllocError>
         sources,
         source_limit,
         is_draining,
+        left_out: _,
+        process: _,
     } = figures;
     push_start(text, start)?;
     push_gauge(
@@ -95,6 +140,46 @@ fn push_figures(text: &mut String, figures: Figures) -> Result<(), AllocError>
     Ok(())
 }
 
+/// Adds which version runs.
+fn push_build(text: &mut String) -> Result<(), AllocError>
+    ensures { OnOk result (string_bytes text.new ≡ string_bytes text.old ++ build_text) }
+{
+    let name = "forward_relay_build_info";
+    push_head(text, name, "gauge", "The version that runs: always 1.")?;
+    push_word(text, "forward_relay_build_info{version=\"", VERSION, 1)?;
+    Ok(())
+}
+
+/// Adds what is known of the process.
+fn push_process(text: &mut String, process: ProcessFigures) -> Result<(), AllocError>
+    ensures { OnOk result (string_bytes text.new ≡ string_bytes text.old ++ process_text process) }
+{
+    let ProcessFigures {
+        resident,
+        open_files,
+        most_files,
+        processor,
+        start,
+    } = process;
+    let help = "Memory that the process has, in bytes.";
+    push_gauge_if(text, "process_resident_memory_bytes", help, resident)?;
+    let help = "Files that the process has open.";
+    push_gauge_if(text, "process_open_fds", help, open_files)?;
+    let help = "The most files that the process may have open.";
+    push_gauge_if(text, "process_max_fds", help, most_files)?;
+    let help = "Processor time of the process, in seconds.";
+    push_seconds_if(
+        text,
+        "process_cpu_seconds_total",
+        "counter",
+        help,
+        processor,
+    )?;
+    let help = "When the process started, in seconds since 1970.";
+    push_seconds_if(text, "process_start_time_seconds", "gauge", help, start)?;
+    Ok(())
+}
+
 /// What a gauge says of a flag: 1 or 0.
 fn flag_value(flag: bool) -> u64
     ensures { result ≡ flag_value flag }
@@ -103,15 +188,11 @@ fn flag_value(flag: bool) -> u64
 }
 
 /// Adds when the relay started, where that is known.
-#[tactic(auto, unfolding(crate::specs::Metrics::start_text))]
 fn push_start(text: &mut String, start: Option<u64>) -> Result<(), AllocError>
     ensures { OnOk result (string_bytes text.new ≡ string_bytes text.old ++ start_text start) }
 {
-    let Some(start) = start else {
-        return Ok(());
-    };
     let help = "When the relay started, in seconds since 1970.";
-    push_gauge(text, "forward_relay_start_time_seconds", help, start)
+    push_gauge_if(text, "forward_relay_start_time_seconds", help, start)
 }
 
 /// Adds what each output has to do with.
@@ -166,6 +247,71 @@ fn push_by_figure(
         push_sample(text, figure.name(), output, figure.of(figures))?;
     }
     Ok(())
+}
+
+/// Adds which tags each output takes.
+fn push_infos(
+    alloc: Global,
+    page: &mut Vec<u8>,
+    outputs: &[OutputFigures],
+) -> Result<(), AllocError>
+    ensures { OnOk result (page.new.items ≡ page.old.items ++ infos_text outputs.now) }
+{
+    push_info_head(alloc, page)?;
+    push_info_lines(alloc, page, "forward_relay_output_info", outputs)?;
+    Ok(())
+}
+
+/// Adds what stands in front of the samples that say so.
+fn push_info_head(alloc: Global, page: &mut Vec<u8>) -> Result<(), AllocError>
+    ensures { OnOk result (page.new.items ≡ page.old.items ++ info_head) }
+{
+    let mut head = String::new(alloc);
+    let help = "The match pattern of an output: always 1.";
+    push_head(&mut head, "forward_relay_output_info", "gauge", help)?;
+    page.extend_from_slice(head.as_bytes())
+}
+
+/// Adds the samples that say so, under this name.
+#[tactic(auto, unfolding(crate::specs::Metrics::info_lines))]
+fn push_info_lines(
+    alloc: Global,
+    page: &mut Vec<u8>,
+    name: &str,
+    outputs: &[OutputFigures],
+) -> Result<(), AllocError>
+    ensures { OnOk result (page.new.items ≡ page.old.items ++ info_lines name.now outputs.now) }
+{
+    for (output, figures) in outputs.iter().enumerate() {
+        push_info(alloc, page, name, output, figures)?;
+    }
+    Ok(())
+}
+
+/// Adds the sample of an output that says which tags it takes.
+#[tactic(auto, unfolding(crate::specs::Metrics::info_line))]
+fn push_info(
+    alloc: Global,
+    page: &mut Vec<u8>,
+    name: &str,
+    output: usize,
+    figures: &OutputFigures,
+) -> Result<(), AllocError>
+    ensures { OnOk result
+        (page.new.items ≡ page.old.items ++ info_line name.now (output, figures.now)) }
+{
+    let front = format!(in alloc; "{name}{{output=\"{output}\",")?;
+    page.extend_from_slice(front.as_bytes())?;
+    push_pattern(alloc, page, &figures.pattern)?;
+    page.extend_from_slice(b"} 1\n")
+}
+
+/// Adds the label of a pattern.
+fn push_pattern(alloc: Global, page: &mut Vec<u8>, pattern: &Text) -> Result<(), AllocError>
+    ensures { OnOk result
+        (page.new.items ≡ page.old.items ++ text_label (codes "match") pattern.now) }
+{
+    push_label(alloc, page, "match", pattern.as_str().as_bytes())
 }
 
 /// Adds how many tags of each output have no samples.
@@ -257,7 +403,7 @@ fn push_tag(
     let name = measure.name();
     let front = format!(in alloc; "{name}{{output=\"{output}\",")?;
     page.extend_from_slice(front.as_bytes())?;
-    push_label(alloc, page, tag.tag.as_slice())?;
+    push_label(alloc, page, "tag", tag.tag.as_slice())?;
     let value = measure.of(tag);
     let back = format!(in alloc; "}} {value}\n")?;
     page.extend_from_slice(back.as_bytes())

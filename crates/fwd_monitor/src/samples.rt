@@ -2,7 +2,16 @@
 
 ghost use Rattle.std.specs.Prelude.{◌≡◌, ◌++◌, OnOk};
 ghost use Rattle.std.specs.String.{string_bytes};
-ghost use Rattle.fwd_monitor.specs.Samples.{gauge, head_lines_of, output_line, word_line};
+ghost use Rattle.fwd_monitor.specs.Samples.{
+  counter,
+  gauge,
+  gauge_if,
+  head_lines_of,
+  hundredths_line,
+  output_line,
+  seconds_if,
+  word_line,
+};
 
 use std::alloc::AllocError;
 
@@ -19,6 +28,67 @@ pub(crate) fn push_gauge(
 {
     push_head(text, name, "gauge", help)?;
     write!(text, "{name} {value}\n")
+}
+
+/// Adds a metric that has one value, which only rises.
+#[tactic(auto, unfolding(crate::specs::Samples::counter))]
+pub(crate) fn push_counter(
+    text: &mut String,
+    name: &str,
+    help: &str,
+    value: u64,
+) -> Result<(), AllocError>
+    ensures { OnOk result
+        (string_bytes text.new ≡ string_bytes text.old ++ counter name.now help.now value) }
+{
+    push_head(text, name, "counter", help)?;
+    write!(text, "{name} {value}\n")
+}
+
+/// Adds a metric that has one value, where that is known.
+#[tactic(auto, unfolding(crate::specs::Samples::gauge_if))]
+pub(crate) fn push_gauge_if(
+    text: &mut String,
+    name: &str,
+    help: &str,
+    value: Option<u64>,
+) -> Result<(), AllocError>
+    ensures { OnOk result
+        (string_bytes text.new ≡ string_bytes text.old ++ gauge_if name.now help.now value) }
+{
+    match value {
+        Some(value) => push_gauge(text, name, help, value),
+        None => Ok(()),
+    }
+}
+
+/// Adds a metric of seconds that has one value in hundredths, where that is known.
+#[tactic(auto, unfolding(crate::specs::Samples::seconds_if))]
+pub(crate) fn push_seconds_if(
+    text: &mut String,
+    name: &str,
+    kind: &str,
+    help: &str,
+    value: Option<u64>,
+) -> Result<(), AllocError>
+    ensures { OnOk result (string_bytes text.new
+        ≡ string_bytes text.old ++ seconds_if name.now kind.now help.now value) }
+{
+    let Some(value) = value else {
+        return Ok(());
+    };
+    push_head(text, name, kind, help)?;
+    push_hundredths(text, name, value)
+}
+
+/// Adds a sample of hundredths, as a number of units with two digits behind a point.
+#[tactic(auto, unfolding(crate::specs::Samples::hundredths_line))]
+fn push_hundredths(text: &mut String, name: &str, value: u64) -> Result<(), AllocError>
+    ensures { OnOk result
+        (string_bytes text.new ≡ string_bytes text.old ++ hundredths_line name.now value) }
+{
+    let (whole, tenths, rest) = (value / 100, value % 100 / 10, value % 10);
+    write!(text, "{name} {whole}.{tenths}{rest}\n")
 }
 
 /// Adds the lines in front of a metric's samples.

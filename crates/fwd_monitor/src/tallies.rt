@@ -5,6 +5,7 @@ ghost use Rattle.std.specs.Net.Text.{socket_text};
 ghost use Rattle.std.specs.String.{string_bytes};
 ghost use Rattle.fwd_monitor.specs.Tallies as tallies;
 ghost use Rattle.fwd_monitor.specs.Tallies.{
+  by_count,
   by_server,
   closed_lines,
   closed_text,
@@ -25,11 +26,9 @@ ghost use Rattle.fwd_monitor.specs.Tallies.{
   relay_tally_text,
   server_samples,
   value_line,
-  without_ack,
-  without_ack_text,
 };
 
-use crate::measure::ServerMeasure;
+use crate::measure::{OutputCount, ServerMeasure};
 use crate::samples::{push_head, push_sample, push_word};
 use crate::tally::{
     MemoryRefused, OutputTally, OverLimit, RelayTally, RequestsRefused, ServerTally, SessionsLost,
@@ -206,7 +205,10 @@ pub(crate) fn push_output_tally(
         ..
     } = tally;
     push_refused(alloc, text, outputs)?;
-    push_without_ack(text, outputs)?;
+    push_by_count(text, OutputCount::WithoutAck, outputs)?;
+    push_by_count(text, OutputCount::AcceptedBytes, outputs)?;
+    push_by_count(text, OutputCount::SettledBytes, outputs)?;
+    push_by_count(text, OutputCount::ChunksRefused, outputs)?;
     push_by_server(alloc, text, ServerMeasure::Lost, servers)?;
     push_by_server(alloc, text, ServerMeasure::Acknowledged, servers)?;
     push_by_server(alloc, text, ServerMeasure::Resent, servers)?;
@@ -271,30 +273,19 @@ fn push_reason_front(text: &mut String, name: &str, output: usize) -> Result<(),
     write!(text, "{name}{{output=\"{output}\",reason=\"")
 }
 
-/// Adds the entries that outputs accepted of sources that asked for no acknowledgement.
-fn push_without_ack(text: &mut String, outputs: &[OutputTally]) -> Result<(), AllocError>
-    ensures { OnOk result
-        (string_bytes text.new ≡ string_bytes text.old ++ without_ack_text outputs.now) }
-{
-    let name = "forward_relay_accepted_without_ack_entries_total";
-    let help = "Entries accepted of sources that asked for no acknowledgement.";
-    push_without_ack_by(text, name, help, outputs)
-}
-
-/// Adds a counter that says so of each output.
-#[tactic(auto, unfolding(crate::specs::Tallies::without_ack))]
-fn push_without_ack_by(
+/// Adds a counter with a sample for each output.
+#[tactic(auto, unfolding(crate::specs::Tallies::by_count))]
+fn push_by_count(
     text: &mut String,
-    name: &str,
-    help: &str,
+    count: OutputCount,
     outputs: &[OutputTally],
 ) -> Result<(), AllocError>
-    ensures { OnOk result (string_bytes text.new
-        ≡ string_bytes text.old ++ without_ack name.now help.now outputs.now) }
+    ensures { OnOk result
+        (string_bytes text.new ≡ string_bytes text.old ++ by_count count outputs.now) }
 {
-    push_head(text, name, "counter", help)?;
+    push_head(text, count.name(), "counter", count.help())?;
     for (output, tally) in outputs.iter().enumerate() {
-        push_sample(text, name, output, tally.without_ack)?;
+        push_sample(text, count.name(), output, count.of(tally))?;
     }
     Ok(())
 }

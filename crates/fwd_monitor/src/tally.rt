@@ -133,6 +133,12 @@ pub struct OutputTally {
     pub refused: RequestsRefused,
     /// The entries that it accepted of sources that asked for no acknowledgement.
     pub without_ack: u64,
+    /// The bytes of the entries that it accepted, as its limit counts them.
+    pub accepted_bytes: u64,
+    /// The bytes of those that are settled.
+    pub settled_bytes: u64,
+    /// How often a chunk was lost that a server seems to refuse.
+    pub chunks_refused: u64,
 }
 
 /// What was counted since the relay started.

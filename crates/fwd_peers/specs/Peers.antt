@@ -233,12 +233,30 @@ owes_nothing s =
 abbrev pub silent_since : PeerShown → Option ℕ
 silent_since s = if owes_nothing s then Some s.heard else None
 
+-- it was let in, and gave no request, also none that waits
+abbrev pub has_given_none : PeerShown → Bool
+has_given_none s =
+    not s.live.awaits && (s.given == 0 && length s.live.waiting == 0)
+
+-- nothing came of it but nil: it gave no request, and holds no byte of one
+abbrev pub is_silent : PeerShown → Bool
+is_silent s = length s.live.rest == 0 && has_given_none s
+
 -- ---- why it is ended
 
 -- that its request was not admitted: for want of memory, or because the relay closes it
 abbrev pub end_by : CloseReason → PeerEnd
 end_by (source_end.Refused output refusal.Memory) = peer_end.Memory
 end_by why = peer_end.Closed why
+
+-- why it is closed whose request has so many bytes, at an output that may hold so many: a request
+-- above that by itself is never admitted
+abbrev pub sized : CloseReason → (bytes limit : ℕ) → CloseReason
+sized (source_end.Refused output refusal.Full) bytes limit =
+    if nat_lt limit bytes
+    then source_end.TooLarge output bytes limit
+    else source_end.Refused output refusal.Full
+sized why bytes limit = why
 
 -- ---- what it is sent
 

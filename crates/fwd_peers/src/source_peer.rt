@@ -497,6 +497,21 @@ impl SourcePeer {
         if is_quiet { Some(self.heard) } else { None }
     }
 
+    /// Whether nothing came of it but nil: it was let in, gave no request, and holds no byte of an
+    /// unfinished value.
+    pub fn is_silent(&self) -> bool
+        ensures { result ≡ peers.is_silent self.now }
+    {
+        self.source.unfinished() == 0 && self.has_given_none()
+    }
+
+    /// Whether it was let in, and gave no request, also none that waits.
+    fn has_given_none(&self) -> bool
+        ensures { result ≡ peers.has_given_none self.now }
+    {
+        !self.source.awaits_login() && self.given == 0 && self.source.waiting() == 0
+    }
+
     /// Whether it was not read, and may be now.
     pub fn is_free(&self) -> bool
         ensures { result ≡ self.now.held && nat_lt (length self.now.live.unsent) UNSENT }

@@ -5,8 +5,10 @@
 
 use crate::ending::RunEnd;
 use crate::file::SettingsFile;
+use crate::hints::{Hint, hint_at};
 use crate::key_lines::{line_at, line_of, value_at};
 use crate::key_tables::{allowed_in, kind_of, parent_of, table_having};
+use crate::mending::next_fault;
 use crate::saying::say;
 use fwd_loop::{ControlPath, Ending, StartFault};
 use fwd_match::{Pattern, PatternFault};
@@ -21,6 +23,10 @@ use std::rt::Files;
 use std::{fmt, fs, io};
 use toml::{Table, de};
 
+/// The most faults of a text that are told: to find the line of each, the text is read over and
+/// over again.
+const FAULTS_MAX: usize = 20;
+
 /// Why settings are refused.
 #[derive(Clone, Copy)]
 enum Why<'a> {
@@ -30,8 +36,8 @@ enum Why<'a> {
     NotToml(de::Error),
     /// The key is required.
     Missing(&'a str),
-    /// The key's value is of another kind, or out of its range.
-    Wrong(&'a str),
+    /// The key's value is of another kind, or out of its range, and seems to be meant so.
+    Wrong(&'a str, Option<Hint>),
     /// The key's value is no match pattern.
     NoPattern(&'a str, Option<PatternFault>),
     /// All servers of the list are standbys.
@@ -51,7 +57,13 @@ impl fmt::Display for Why<'_> {
                 write!(f, "no TOML: {message}")
             }
             Why::Missing(key) => tell_allowed(f, key, "is required"),
-            Why::Wrong(key) => tell_allowed(f, key, "is refused"),
+            Why::Wrong(key, hint) => {
+                tell_allowed(f, key, "is refused")?;
+                match hint {
+                    Some(hint) => write!(f, "; {hint}"),
+                    None => Ok(()),
+                }
+            }
             Why::NoPattern(key, fault) => {
                 write!(f, "{key} is no match pattern")?;
                 match fault {
@@ -156,7 +168,7 @@ fn out_of_range<'a>(root: &Table, key: &'a str) -> Why<'a> {
     match allowed_in(table, name) {
         Some(Allowed::Users) if listed > 0 => Why::Keyless(key),
         Some(Allowed::Servers) if is_list => Why::Standbys(key),
-        _ => Why::Wrong(key),
+        _ => Why::Wrong(key, hint_at(root, key)),
     }
 }
 
@@ -185,7 +197,10 @@ fn key_cause<'a>(
     let (path, text) = file;
     let (why, place) = match fault {
         SettingsFault::Missing(key) => (Why::Missing(key.as_str()), table_of(key.as_str())),
-        SettingsFault::WrongKind(key) => (Why::Wrong(key.as_str()), Some(key.as_str())),
+        SettingsFault::WrongKind(key) => {
+            let key = key.as_str();
+            (Why::Wrong(key, hint_at(root, key)), Some(key))
+        }
         SettingsFault::OutOfRange(key) => (out_of_range(root, key.as_str()), Some(key.as_str())),
         SettingsFault::BadPattern(key) => {
             let key = key.as_str();
@@ -221,7 +236,30 @@ fn cause_of<'a>(
     }
 }
 
-/// Says why the settings in a file are refused with a fault.
+/// Says why a text is refused beside its first fault: each further one on a line, up to so many.
+fn say_further<E: Write>(
+    alloc: Global,
+    path: &str,
+    text: &[u8],
+    first: &SettingsFault,
+    errors: &mut E,
+) {
+    let Ok(mut root) = toml::table_from_slice(alloc, text) else {
+        return;
+    };
+    let mut found = next_fault(alloc, &mut root, first);
+    for _ in 1..FAULTS_MAX {
+        let Some(fault) = found else {
+            return;
+        };
+        if let Some(cause) = cause_of(alloc, path, text, &fault) {
+            say(errors, &cause);
+        }
+        found = next_fault(alloc, &mut root, &fault);
+    }
+}
+
+/// Says why the settings in a file are refused with a fault, and with which others.
 pub(crate) fn say_refused<E: Write>(
     alloc: Global,
     file: &SettingsFile<'_>,
@@ -237,6 +275,7 @@ pub(crate) fn say_refused<E: Write>(
             if let Some(cause) = cause_of(alloc, path, text.as_slice(), fault) {
                 say(errors, &cause);
             }
+            say_further(alloc, path, text.as_slice(), fault, errors);
         }
         Err(error) => {
             let (line, why) = (None, Why::Unread(error));

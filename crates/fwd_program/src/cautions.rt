@@ -1,39 +1,35 @@
 //! What is lawful in settings, and foolish.
 
 use crate::file::SettingsFile;
+use crate::limit_cautions::say_of_limits;
+use crate::literals::literal_in;
+use crate::relay_cautions::{leads_to, say_of_relay};
 use crate::saying::say;
-use crate::unreached::is_unreached;
-use fwd_settings::{OutputSettings, RelaySettings, Settings};
+use crate::unreached::{is_unreached, match_text};
+use fwd_settings::{OutputSettings, Settings};
 use std::alloc::Global;
 use std::fmt;
 use std::io::Write;
 use std::net::SocketAddr;
 use toml::Table;
 
-/// The most bytes of a chunk that is short enough for the servers of other makers by their
-/// defaults: Fluent Bit takes messages of 6,144,000 bytes, and a frame has a head and a tail.
-const COMMON_CHUNK: u64 = 6_000_000;
-
 /// What is lawful in settings, and foolish.
 #[derive(Clone, Copy)]
 enum Caution {
-    /// Sources and monitors are listened for at one address.
-    SameAddress(SocketAddr),
     /// A server of the output of this number is the relay itself.
     OwnServer {
         output: usize,
         server: SocketAddr,
     },
-    /// A chunk of the output may have more bytes than all of the output.
-    LargeChunk {
+    /// Two servers of the output have one address.
+    SameServer {
         output: usize,
-        chunk: u64,
-        total: u64,
+        server: SocketAddr,
     },
-    /// A chunk of the output may have more bytes than some servers take in one message.
-    LongChunk {
+    /// The output's pattern has what Fluentd means something by, and what stands for itself here.
+    Literal {
         output: usize,
-        chunk: u64,
+        what: &'static str,
     },
     /// The output has fewer workers than servers that are no standby.
     FewWorkers {
@@ -51,27 +47,17 @@ impl fmt::Display for Caution {
     fn fmt<W: fmt::Write>(&self, f: &mut fmt::Formatter<W>) -> fmt::Result {
         f.write_str("caution: ")?;
         match *self {
-            Caution::SameAddress(address) => write!(
-                f,
-                "listen and monitor are both {address}: no run can start"
-            ),
             Caution::OwnServer { output, server } => write!(
                 f,
                 "output {output} server {server} is the relay itself: what it sends comes back"
             ),
-            Caution::LargeChunk {
-                output,
-                chunk,
-                total,
-            } => write!(
+            Caution::SameServer { output, server } => write!(
                 f,
-                "output {output} chunk_limit {chunk} above total_limit {total}: \
-                no chunk can become as large"
+                "output {output} server {server} is listed twice: it counts as two servers"
             ),
-            Caution::LongChunk { output, chunk } => write!(
+            Caution::Literal { output, what } => write!(
                 f,
-                "output {output} chunk_limit {chunk} above {COMMON_CHUNK}: \
-                some servers refuse such a chunk each time, as Fluent Bit by its defaults"
+                "output {output} match has {what}: literal here, unlike in Fluentd"
             ),
             Caution::FewWorkers {
                 output,
@@ -93,22 +79,6 @@ impl fmt::Display for Caution {
     }
 }
 
-/// Whether who connects to an address may come to who listens at another.
-fn leads_to(address: SocketAddr, listen: SocketAddr) -> bool {
-    let (ip, own) = (address.ip(), listen.ip());
-    let is_near = ip.is_loopback() || ip.is_unspecified();
-    address.port() == listen.port() && (ip == own || own.is_unspecified() && is_near)
-}
-
-/// Says what is foolish in the addresses that the relay listens at.
-pub(crate) fn say_of_relay<E: Write>(relay: &RelaySettings, errors: &mut E) {
-    if let Some(monitor) = relay.monitor {
-        if leads_to(monitor, relay.listen) || leads_to(relay.listen, monitor) {
-            say(errors, &Caution::SameAddress(monitor));
-        }
-    }
-}
-
 /// Says which servers of the output of this number are the relay itself.
 fn say_of_servers<E: Write>(
     listen: SocketAddr,
@@ -124,20 +94,15 @@ fn say_of_servers<E: Write>(
     }
 }
 
-/// Says what is foolish in the limits of the output of this number.
-fn say_of_limits<E: Write>(output: usize, settings: &OutputSettings, errors: &mut E) {
-    let (chunk, total) = (settings.chunk_limit, settings.total_limit);
-    if chunk > total {
-        say(
-            errors,
-            &Caution::LargeChunk {
-                output,
-                chunk,
-                total,
-            },
-        );
-    } else if chunk > COMMON_CHUNK {
-        say(errors, &Caution::LongChunk { output, chunk });
+/// Says which servers of the output of this number have the address of one before them.
+fn say_of_repeats<E: Write>(output: usize, settings: &OutputSettings, errors: &mut E) {
+    let servers = settings.servers.as_slice();
+    for (place, server) in servers.iter().enumerate() {
+        let server = server.address;
+        let before = servers.iter().take(place);
+        if before.filter(|other| other.address == server).count() > 0 {
+            say(errors, &Caution::SameServer { output, server });
+        }
     }
 }
 
@@ -156,6 +121,17 @@ fn say_of_workers<E: Write>(output: usize, settings: &OutputSettings, errors: &m
                 servers,
             },
         );
+    }
+}
+
+/// Says what the patterns have that stands for itself here, by their document.
+fn say_literals<E: Write>(root: &Table, outputs: usize, errors: &mut E) {
+    for output in 0..outputs {
+        if let Some(text) = match_text(root, output) {
+            if let Some(what) = literal_in(text) {
+                say(errors, &Caution::Literal { output, what });
+            }
+        }
     }
 }
 
@@ -188,10 +164,12 @@ pub(crate) fn say_cautions<E: Write>(
     let outputs = settings.outputs.as_slice();
     for (output, each) in outputs.iter().enumerate() {
         say_of_servers(listen, output, each, errors);
-        say_of_limits(output, each, errors);
+        say_of_repeats(output, each, errors);
+        say_of_limits(settings.relay.message_limit, output, each, errors);
         say_of_workers(output, each, errors);
     }
     if let Some(root) = file.document(alloc) {
+        say_literals(&root, outputs.len(), errors);
         say_unreached(alloc, &root, outputs, errors);
     }
 }

@@ -3,9 +3,9 @@
 use crate::ending::RunEnd;
 use crate::journal_line::{JournalLine, Subject};
 use crate::line_limits::{LeftOut, LineLimits};
-use crate::version::VERSION;
 use arrayvec::ArrayString;
 use fwd_loop::{Ending, JournalEvent, Observer};
+use fwd_monitor::{Figures, VERSION};
 use jiff::Timestamp;
 use std::env::Env;
 use std::fmt::Write as _;
@@ -18,7 +18,7 @@ use std::{env, fmt};
 const VARIABLE: &str = "FORWARD_RELAY_LOG";
 
 /// The most bytes of a line but the first, with its line feed: the longest has 24 of time, 15 of
-/// its kind, 128 of a tag, and below 150 of numbers, an address and a name.
+/// its kind, 130 of a tag or a reason, and below 150 of numbers, an address and a name.
 const LINE: usize = 400;
 
 /// Whether a run says what it comes to.
@@ -50,6 +50,8 @@ pub struct Journal<'a, R: Clock, E: Write> {
     limits: LineLimits,
     /// How many lines could not be written since that was told last.
     unwritten: u64,
+    /// How many lines were left out, and events could not be told, since it began.
+    left_out: u64,
     /// The second in which writing was tried last.
     tried: i64,
     /// What runs was said.
@@ -65,6 +67,7 @@ impl<'a, R: Clock, E: Write> Journal<'a, R, E> {
             now: Timestamp::UNIX_EPOCH,
             limits: LineLimits::new(),
             unwritten: 0,
+            left_out: 0,
             tried: 0,
             is_begun: false,
         }
@@ -95,11 +98,14 @@ impl<'a, R: Clock, E: Write> Journal<'a, R, E> {
         self.unwritten == 0
     }
 
-    /// Says a line that stands for so many, behind how many could not be written before it.
-    fn say<T: fmt::Display>(&mut self, text: &T, lines: u64) {
-        if !self.settle_unwritten() || !self.write(text) {
+    /// Says a line that stands for so many, behind how many could not be written before it: whether
+    /// it could be written.
+    fn say<T: fmt::Display>(&mut self, text: &T, lines: u64) -> bool {
+        let is_said = self.settle_unwritten() && self.write(text);
+        if !is_said {
             self.unwritten = self.unwritten.saturating_add(lines);
         }
+        is_said
     }
 
     /// Says how many lines were left out, by what they were about, if any were: in a second that is
@@ -109,7 +115,7 @@ impl<'a, R: Clock, E: Write> Journal<'a, R, E> {
             let Some(left_out) = self.limits.owed(second) else {
                 return;
             };
-            self.say(&left_out, left_out.count);
+            let _ = self.say(&left_out, left_out.count);
         }
     }
 
@@ -139,7 +145,7 @@ impl<'a, R: Clock, E: Write> Journal<'a, R, E> {
     pub fn end(&mut self, ran: &Result<Ending, RunEnd>) {
         if self.is_begun {
             self.look();
-            self.say(&Stopped { ran }, 1);
+            let _ = self.say(&Stopped { ran }, 1);
         }
     }
 }
@@ -149,8 +155,20 @@ impl<'a, R: Clock, E: Write> Observer for Journal<'a, R, E> {
         self.look();
         let second = self.now.as_second();
         self.settle(Some(second));
-        if self.limits.takes(Subject::of(&event), second) {
-            self.say(&JournalLine { event }, 1);
+        let is_said = self.limits.takes(Subject::of(&event), second)
+            && self.say(&JournalLine { event }, 1);
+        let lost = match event {
+            JournalEvent::LeftOut(count) => count,
+            _ => 0,
+        };
+        let left_out = lost.saturating_add(u64::from(!is_said));
+        self.left_out = self.left_out.saturating_add(left_out);
+    }
+
+    fn complete(&mut self, figures: Figures) -> Figures {
+        Figures {
+            left_out: self.left_out,
+            ..figures
         }
     }
 

@@ -1,5 +1,6 @@
 //! What is said of an event.
 
+use crate::shown_text::ShownText;
 use fwd_loop::{CloseReason, JournalEvent, ListenerKind, MemoryFor};
 use fwd_script::{session_fault_name, source_fault_name};
 use fwd_workers::{AdmitRefusal, LinkFault, LossReason};
@@ -21,14 +22,15 @@ pub enum LineKind {
     OutputFull = 10,
     LeftOut = 11,
     Stopping = 12,
+    SourceSilent = 13,
 }
 
 impl LineKind {
     /// How many kinds there are.
-    pub const COUNT: usize = 13;
+    pub const COUNT: usize = 14;
 
     /// Each kind once.
-    pub const ALL: [LineKind; 13] = [
+    pub const ALL: [LineKind; 14] = [
         LineKind::Listening,
         LineKind::SourceClosed,
         LineKind::ServerLost,
@@ -42,6 +44,7 @@ impl LineKind {
         LineKind::OutputFull,
         LineKind::LeftOut,
         LineKind::Stopping,
+        LineKind::SourceSilent,
     ];
 
     /// The kind of an event.
@@ -61,6 +64,7 @@ impl LineKind {
             JournalEvent::Full { .. } | JournalEvent::Room { .. } => LineKind::OutputFull,
             JournalEvent::LeftOut(_) => LineKind::LeftOut,
             JournalEvent::Stopping { .. } => LineKind::Stopping,
+            JournalEvent::Silent { .. } => LineKind::SourceSilent,
         }
     }
 }
@@ -82,6 +86,7 @@ impl fmt::Display for LineKind {
             LineKind::OutputFull => "output full",
             LineKind::LeftOut => "journal",
             LineKind::Stopping => "stopping",
+            LineKind::SourceSilent => "source silent",
         })
     }
 }
@@ -116,7 +121,9 @@ impl Subject {
                 "",
                 Some(*output),
             ),
-            JournalEvent::LeftOut(_) | JournalEvent::Stopping { .. } => ("", None),
+            JournalEvent::LeftOut(_)
+            | JournalEvent::Stopping { .. }
+            | JournalEvent::Silent { .. } => ("", None),
         };
         Subject { kind, name, output }
     }
@@ -143,7 +150,8 @@ impl fmt::Display for Subject {
     }
 }
 
-/// An event in words, on one line, without its line feed. No byte of a peer stands in it.
+/// An event in words, on one line, without its line feed. Bytes of a peer stand in it as
+/// `ShownText` shows them.
 #[derive(Clone, Copy)]
 pub struct JournalLine {
     pub event: JournalEvent,
@@ -163,23 +171,31 @@ impl fmt::Display for JournalLine {
             JournalEvent::SourceClosed { peer, why } => {
                 let name = close_reason_name(why);
                 write!(f, "{peer} {name}")?;
-                match output_of(why) {
-                    Some(output) => write!(f, " output {output}"),
-                    None => Ok(()),
-                }
+                write_place(f, why)
             }
             JournalEvent::Unrouted { peer, tag } => {
                 let name = close_reason_name(CloseReason::NoRoute);
-                write!(f, "{peer} {name} tag ")?;
-                write_hex(f, tag.as_slice())
+                let bytes = tag.as_slice();
+                let tag = ShownText { bytes };
+                write!(f, "{peer} {name} tag {tag}")
             }
             JournalEvent::ServerLost {
                 output,
                 server,
                 why,
+                said,
             } => {
                 let name = loss_name(why);
-                write!(f, "output {output} {server} {name}")
+                write!(f, "output {output} {server} {name}")?;
+                write_cause(f, why)?;
+                match said {
+                    None => Ok(()),
+                    Some(said) => {
+                        let bytes = said.as_slice();
+                        let said = ShownText { bytes };
+                        write!(f, " {said}")
+                    }
+                }
             }
             JournalEvent::ServerBack { output, server } => write!(f, "output {output} {server}"),
             JournalEvent::ServerChanged {
@@ -205,10 +221,11 @@ impl fmt::Display for JournalLine {
                 losses,
                 why,
             } => {
-                write!(f, "output {output} tag ")?;
-                write_hex(f, tag.as_slice())?;
+                let bytes = tag.as_slice();
+                let tag = ShownText { bytes };
                 let name = loss_name(why);
-                write!(f, " bytes {size} losses {losses} server {server} {name}")
+                write!(f, "output {output} tag {tag} bytes {size} losses {losses}")?;
+                write!(f, " server {server} {name}")
             }
             JournalEvent::Full { output, sources } => {
                 write!(f, "output {output} full: {sources} sources wait")
@@ -216,16 +233,31 @@ impl fmt::Display for JournalLine {
             JournalEvent::Room { output } => write!(f, "output {output} has room"),
             JournalEvent::LeftOut(count) => write!(f, "{count} left out"),
             JournalEvent::Stopping { held } => write!(f, "asked, {held} entries held"),
+            JournalEvent::Silent { peer } => write!(f, "{peer} may wait for a HELO"),
         }
     }
 }
 
-/// Bytes in hexadecimal digits.
-fn write_hex<W: fmt::Write>(f: &mut fmt::Formatter<W>, bytes: &[u8]) -> fmt::Result {
-    for byte in bytes {
-        write!(f, "{byte:02x}")?;
+/// The output that closes a source, where one does, and how long the request is that it never
+/// admits.
+fn write_place<W: fmt::Write>(f: &mut fmt::Formatter<W>, why: CloseReason) -> fmt::Result {
+    if let Some(output) = output_of(why) {
+        write!(f, " output {output}")?;
     }
-    Ok(())
+    match why {
+        CloseReason::TooLarge { bytes, limit, .. } => write!(f, " bytes {bytes} limit {limit}"),
+        _ => Ok(()),
+    }
+}
+
+/// Why a server could not be connected to, where the system says it.
+fn write_cause<W: fmt::Write>(f: &mut fmt::Formatter<W>, why: LossReason) -> fmt::Result {
+    match why {
+        LossReason::Link(LinkFault::Refused) => f.write_str(" refused"),
+        LossReason::Link(LinkFault::Unanswered) => f.write_str(" unanswered"),
+        LossReason::Link(LinkFault::Unreachable) => f.write_str(" unreachable"),
+        _ => Ok(()),
+    }
 }
 
 /// What memory was refused for.
@@ -261,6 +293,7 @@ fn close_reason_name(why: CloseReason) -> &'static str {
     match why {
         CloseReason::Fault(fault) => source_fault_name(fault),
         CloseReason::Refused(_, refusal) => admit_refusal_name(refusal),
+        CloseReason::TooLarge { .. } => admit_refusal_name(AdmitRefusal::Full),
         CloseReason::NoRoute => "NoRoute",
         CloseReason::NoLogin => "NoLogin",
         CloseReason::Idle => "Idle",
@@ -270,7 +303,7 @@ fn close_reason_name(why: CloseReason) -> &'static str {
 /// The output that closes a source, where one does.
 fn output_of(why: CloseReason) -> Option<u16> {
     match why {
-        CloseReason::Refused(output, _) => Some(output),
+        CloseReason::Refused(output, _) | CloseReason::TooLarge { output, .. } => Some(output),
         _ => None,
     }
 }
@@ -288,7 +321,12 @@ fn admit_refusal_name(refusal: AdmitRefusal) -> &'static str {
 /// The name of why a server is lost.
 fn loss_name(why: LossReason) -> &'static str {
     match why {
-        LossReason::Link(LinkFault::Connect) => "Connect",
+        LossReason::Link(
+            LinkFault::Connect
+            | LinkFault::Refused
+            | LinkFault::Unanswered
+            | LinkFault::Unreachable,
+        ) => "Connect",
         LossReason::Link(LinkFault::Read) => "Read",
         LossReason::Link(LinkFault::Write) => "Write",
         LossReason::Link(LinkFault::Descriptors) => "Descriptors",

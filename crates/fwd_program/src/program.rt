@@ -6,10 +6,14 @@ ghost use Rattle.std.specs.IoError.{error_kind};
 ghost use Rattle.std.specs.Io.KnownBytes.{Keeps};
 ghost use Rattle.fwd_script.specs.declared.program.End.{End};
 ghost use Rattle.fwd_script.specs.Program.{Performs, end_code, words_behind};
+ghost use Rattle.fwd_script.specs.Statuses.{exit_code};
+ghost use Rattle.fwd_script.specs.declared.status.Status.{Status as TheStatus};
 ghost use Rattle.fwd_program.specs.Asked.{AsksRun, AsksStop};
 ghost use Rattle.fwd_program.specs.Ends.{Runs, run_code};
 ghost use Rattle.fwd_program.specs.declared.ending.RunEnd.{RunEnd as TheEnd};
 ghost use Rattle.fwd_program.specs.declared.stopping.StopEnd.{StopEnd as TheStop};
+ghost use Rattle.fwd_program.specs.declared.showing.Showing.{Showing as Shown};
+ghost use Rattle.fwd_program.specs.Shows.{AsksToShow, Shows};
 ghost use Rattle.fwd_program.specs.Stops.{stop_code};
 
 use crate::asked::asked_run;
@@ -18,6 +22,7 @@ use crate::checking::check_said;
 use crate::ending::RunEnd;
 use crate::journal::Log;
 use crate::running::run_file;
+use crate::showing::{Showing, asked_showing, show};
 use crate::stopping::{Progress, StopEnd, stop_relay};
 use fwd_loop::Platform;
 use fwd_script::{Command, End, Status, asked, run_program, tell as tell_end};
@@ -54,7 +59,23 @@ fn do_stop<R: Net + Files + AllocGlobal, W: Write, E: Write>(
     end.exit_code()
 }
 
-/// Does what words ask for that ask for no run and no stop, and returns the exit status.
+/// Shows what the program says of itself, tells a fault of that, and returns the exit status.
+fn do_show<R: AllocGlobal, W: Write, E: Write>(
+    rt: &R,
+    showing: Showing,
+    output: &mut W,
+    errors: &mut E,
+) -> u8
+    ensures { (status : TheStatus) × (result ≡ exit_code status)
+        × Shows status showing (W.contents output.old) (W.contents output.new) }
+{
+    let end = End::Ran(show(rt.alloc(), showing, output));
+    let _told = tell_end(errors, &end);
+    end.exit_code()
+}
+
+/// Does what words ask for that ask for no run, no stop and nothing to be shown, and returns the
+/// exit status.
 fn do_other<R: Files + AllocGlobal, I: Read, W: Write, E: Write>(
     rt: &R,
     words: Vec<String>,
@@ -73,6 +94,30 @@ fn do_other<R: Files + AllocGlobal, I: Read, W: Write, E: Write>(
             end.exit_code()
         }
         _ => run_program(rt, Ok(words), input, output, errors),
+    }
+}
+
+/// Does what words ask for that ask for no run and no stop, and returns the exit status.
+fn do_shown<R: Files + AllocGlobal, I: Read, W: Write, E: Write>(
+    rt: &R,
+    words: Vec<String>,
+    input: &mut I,
+    output: &mut W,
+    errors: &mut E,
+) -> u8
+    ensures shown { (showing : Shown)
+        → AsksToShow (words_behind (map string_bytes words.items)) showing
+        → (status : TheStatus) × (result ≡ exit_code status)
+        × Shows status showing (W.contents output.old) (W.contents output.new) }
+    ensures other { ((showing : Shown)
+        → ¬ AsksToShow (words_behind (map string_bytes words.items)) showing)
+        → (end : End) × (result ≡ end_code end)
+        × Performs (words_behind (map string_bytes words.items))
+        end (I.remaining input.old) (W.contents output.old) (W.contents output.new) }
+{
+    match asked_showing(words.as_slice()) {
+        Some(showing) => do_show(rt, showing, output, errors),
+        None => do_other(rt, words, input, output, errors),
     }
 }
 
@@ -97,15 +142,23 @@ fn do_rest<R: Net + Files + AllocGlobal, I: Read, W: Write, E: Write>(
     ensures stop { (path : List ℕ) (seconds : Option ℕ)
         → AsksStop (words_behind (map string_bytes call.words.items)) path seconds
         → (end : TheStop) × (result ≡ stop_code end) }
+    ensures shown { ((path : List ℕ) (seconds : Option ℕ)
+        → ¬ AsksStop (words_behind (map string_bytes call.words.items)) path seconds)
+        → (showing : Shown)
+        → AsksToShow (words_behind (map string_bytes call.words.items)) showing
+        → (status : TheStatus) × (result ≡ exit_code status)
+        × Shows status showing (W.contents output.old) (W.contents output.new) }
     ensures other { ((path : List ℕ) (seconds : Option ℕ)
         → ¬ AsksStop (words_behind (map string_bytes call.words.items)) path seconds)
+        → ((showing : Shown)
+        → ¬ AsksToShow (words_behind (map string_bytes call.words.items)) showing)
         → (end : End) × (result ≡ end_code end)
         × Performs (words_behind (map string_bytes call.words.items))
         end (I.remaining input.old) (W.contents output.old) (W.contents output.new) }
 {
     match asked_stop(call.words.as_slice()) {
         Some(stop) => do_stop(rt, stop, call.progress, output, errors),
-        None => do_other(rt, call.words, input, output, errors),
+        None => do_shown(rt, call.words, input, output, errors),
     }
 }
 
@@ -126,10 +179,20 @@ fn run_words<R: Platform + Files, I: Read, W: Write, E: Write>(
         → (path : List ℕ) (seconds : Option ℕ)
         → AsksStop (words_behind (map string_bytes call.words.items)) path seconds
         → (end : TheStop) × (result ≡ stop_code end) }
+    ensures shown { ((path : List ℕ) (turns : ℕ)
+        → ¬ AsksRun (words_behind (map string_bytes call.words.items)) path turns)
+        → ((path : List ℕ) (seconds : Option ℕ)
+        → ¬ AsksStop (words_behind (map string_bytes call.words.items)) path seconds)
+        → (showing : Shown)
+        → AsksToShow (words_behind (map string_bytes call.words.items)) showing
+        → (status : TheStatus) × (result ≡ exit_code status)
+        × Shows status showing (W.contents output.old) (W.contents output.new) }
     ensures other { ((path : List ℕ) (turns : ℕ)
         → ¬ AsksRun (words_behind (map string_bytes call.words.items)) path turns)
         → ((path : List ℕ) (seconds : Option ℕ)
         → ¬ AsksStop (words_behind (map string_bytes call.words.items)) path seconds)
+        → ((showing : Shown)
+        → ¬ AsksToShow (words_behind (map string_bytes call.words.items)) showing)
         → (end : End) × (result ≡ end_code end)
         × Performs (words_behind (map string_bytes call.words.items))
         end (I.remaining input.old) (W.contents output.old) (W.contents output.new) }
@@ -146,10 +209,10 @@ fn run_words<R: Platform + Files, I: Read, W: Write, E: Write>(
 
 /// The whole program, but for where its words and streams come from: where the words ask for a run
 /// it runs, as `run_file` does, and tells how that ended; where they ask that a relay stops it asks
-/// that relay, and shows and tells what comes of it; all other words it answers as
-/// `fwd_script::run_program` does, and says of a check why the settings are refused, or what is
-/// foolish in them. It returns the exit status. An end that cannot be told has the same exit
-/// status.
+/// that relay, and shows and tells what comes of it; where they ask for the version or the calls it
+/// shows these; all other words it answers as `fwd_script::run_program` does, and says of a check
+/// why the settings are refused, or what is foolish in them. It returns the exit status. An end
+/// that cannot be told has the same exit status.
 ///
 /// What it asks of its runtime is that of a `Platform`, in full: a caller with a runtime of its own
 /// has to meet its sockets' types by name.
@@ -175,11 +238,22 @@ pub fn run_all<
         → (path : List ℕ) (seconds : Option ℕ)
         → AsksStop (words_behind (map string_bytes call.words.items)) path seconds
         → (end : TheStop) × (result ≡ stop_code end)) }
+    ensures shown { IfOk call (λ call.
+        ((path : List ℕ) (turns : ℕ)
+        → ¬ AsksRun (words_behind (map string_bytes call.words.items)) path turns)
+        → ((path : List ℕ) (seconds : Option ℕ)
+        → ¬ AsksStop (words_behind (map string_bytes call.words.items)) path seconds)
+        → (showing : Shown)
+        → AsksToShow (words_behind (map string_bytes call.words.items)) showing
+        → (status : TheStatus) × (result ≡ exit_code status)
+        × Shows status showing (W.contents output.old) (W.contents output.new)) }
     ensures asked { IfOk call (λ call.
         ((path : List ℕ) (turns : ℕ)
         → ¬ AsksRun (words_behind (map string_bytes call.words.items)) path turns)
         → ((path : List ℕ) (seconds : Option ℕ)
         → ¬ AsksStop (words_behind (map string_bytes call.words.items)) path seconds)
+        → ((showing : Shown)
+        → ¬ AsksToShow (words_behind (map string_bytes call.words.items)) showing)
         → (end : End) × (result ≡ end_code end)
         × Performs (words_behind (map string_bytes call.words.items))
         end (I.remaining input.old) (W.contents output.old) (W.contents output.new)) }

@@ -1,7 +1,8 @@
 //! A run by the settings in a file.
 
-ghost use Rattle.std.specs.Prelude.{◌≡◌, ℕ, List, true, Err, IfOk, IfErr, MatchResult};
+ghost use Rattle.std.specs.Prelude.{◌≡◌, ℕ, List, true, Err, map, IfOk, IfErr, MatchResult};
 ghost use Rattle.fwd_settings.specs.Ranges.{in_range};
+ghost use Rattle.fwd_loop.specs.Pools.{shown_by};
 ghost use Rattle.fwd_script.specs.Statuses.{refused_status};
 ghost use Rattle.fwd_script.specs.declared.status.Status.TheVariants as statuses;
 ghost use Rattle.fwd_program.specs.Ends.{Found, Runs, ended_as};
@@ -9,21 +10,36 @@ ghost use Rattle.fwd_program.specs.declared.ending.RunEnd.TheVariants as ends;
 
 use crate::asked::Run;
 use crate::causes::{say_refused, say_unheard};
-use crate::cautions::say_of_relay;
 use crate::ending::RunEnd;
 use crate::file::SettingsFile;
 use crate::journal::{Journal, Log};
-use fwd_loop::{Ending, Loop, Observer, Platform};
+use crate::process_observer::ProcessObserver;
+use crate::relay_cautions::say_of_addresses;
+use crate::unreached::add_patterns;
+use fwd_base::Text;
+use fwd_loop::{Ending, Loop, Observer, Platform, StartFault};
 use fwd_monitor::page;
 use fwd_script::{Status, WriteFailed, flush, write_all};
 use fwd_settings::{Settings, SettingsFault};
 use std::io::Write;
+use std::net::Net;
 use std::rt::Files;
 
-/// The settings in a file. It says why they are refused, or that no run by them can start.
+/// How a run goes that has settings.
+#[derive(Drop)]
+struct Terms {
+    /// How many turns the loop and each worker make.
+    turns: u64,
+    /// The match patterns of the outputs, as the settings have them.
+    patterns: Vec<Text>,
+}
+
+/// The settings in a file, whose match patterns it adds to some. It says why they are refused, or
+/// that no run by them can start.
 fn settings_at<R: Files + AllocGlobal, E: Write>(
     rt: &R,
     path: &str,
+    patterns: &mut Vec<Text>,
     errors: &mut E,
 ) -> Result<Settings, SettingsFault>
     ensures range { IfOk result (λ settings. in_range settings ≡ true) }
@@ -32,10 +48,26 @@ fn settings_at<R: Files + AllocGlobal, E: Write>(
     let file = SettingsFile::read(rt, path);
     let found = file.settings(rt.alloc());
     match &found {
-        Ok(settings) => say_of_relay(&settings.relay, errors),
+        Ok(settings) => {
+            say_of_addresses(&settings.relay, errors);
+            add_patterns(rt.alloc(), &file, settings.outputs.len(), patterns);
+        }
         Err(fault) => say_refused(rt.alloc(), &file, fault, errors),
     }
     found
+}
+
+/// The relay of these settings, whose outputs' match patterns are these.
+fn relay_of<R: Net + Files + AllocGlobal>(
+    rt: &R,
+    settings: Settings,
+    patterns: Vec<Text>,
+) -> Result<Loop, StartFault>
+    requires { in_range settings ≡ true }
+    ensures { IfOk result (λ relay. relay ≡ map shown_by settings.outputs) }
+{
+    let relay = Loop::new(rt, settings)?;
+    Ok(relay.with_patterns(patterns))
 }
 
 /// Runs by the settings that were found, under an observer, and writes the page of the last
@@ -43,7 +75,7 @@ fn settings_at<R: Files + AllocGlobal, E: Write>(
 fn run_found<R: Platform + Files, V: Observer, W: Write>(
     rt: &R,
     found: Result<Settings, SettingsFault>,
-    turns: u64,
+    terms: Terms,
     observer: &mut V,
     output: &mut W,
 ) -> Result<Ending, RunEnd>
@@ -54,19 +86,20 @@ fn run_found<R: Platform + Files, V: Observer, W: Write>(
         (λ end. Runs end text (W.contents output.old) (W.contents output.new)) }
 {
     let settings = found?;
-    let relay = Loop::new(rt, settings)?;
-    let outcome = relay.run_to_end(rt, observer, turns)?;
+    let relay = relay_of(rt, settings, terms.patterns)?;
+    let mut told = ProcessObserver { rt, observer };
+    let outcome = relay.run_to_end(rt, &mut told, terms.turns)?;
     let text = page(rt.alloc(), &outcome.reports)?;
     write_all(output, text.as_bytes())?;
     Ok(outcome.ending)
 }
 
-/// The same, under a journal where the log asks for one, which begins with what runs and ends with
-/// why it does no more.
+/// The same as words ask for it, with the outputs' match patterns, under a journal where the log
+/// asks for one, which begins with what runs and ends with why it does no more.
 fn run_told<R: Platform + Files, W: Write, E: Write>(
     rt: &R,
     found: Result<Settings, SettingsFault>,
-    run: Run<'_>,
+    run: (Run<'_>, Vec<Text>),
     output: &mut W,
     errors: &mut E,
 ) -> Result<Ending, RunEnd>
@@ -75,14 +108,19 @@ fn run_told<R: Platform + Files, W: Write, E: Write>(
         (λ _. Runs (ends.Ran statuses.Done) text (W.contents output.old) (W.contents output.new))
         (λ end. Runs end text (W.contents output.old) (W.contents output.new)) }
 {
+    let (run, patterns) = run;
+    let terms = Terms {
+        turns: run.turns,
+        patterns,
+    };
     match run.log {
-        Log::Off => run_found(rt, found, run.turns, &mut (), output),
+        Log::Off => run_found(rt, found, terms, &mut (), output),
         Log::Info => {
             let mut journal = Journal::new(rt, errors);
             if let Ok(settings) = &found {
                 journal.begin(run.path, settings.outputs.len());
             }
-            let ran = run_found(rt, found, run.turns, &mut journal, output);
+            let ran = run_found(rt, found, terms, &mut journal, output);
             journal.close();
             journal.end(&ran);
             ran
@@ -124,8 +162,9 @@ fn run_logged<R: Platform + Files, W: Write, E: Write>(
     ensures { (text : List ℕ)
         × Runs result text (W.contents output.old) (W.contents output.new) }
 {
-    let found = settings_at(rt, run.path, errors);
-    let ran = run_told(rt, found, run, output, errors);
+    let mut patterns = Vec::new(rt.alloc());
+    let found = settings_at(rt, run.path, &mut patterns, errors);
+    let ran = run_told(rt, found, (run, patterns), output, errors);
     say_unheard(rt, &ran, errors);
     ended(ran)
 }

@@ -5,6 +5,8 @@
 //! part more than any word of theirs has is enough: then a `**` of theirs takes one of the parts at
 //! least, and would take any further ones.
 
+use crate::file::SettingsFile;
+use fwd_base::Text;
 use fwd_settings::OutputSettings;
 use std::alloc::{AllocError, Global};
 use toml::Table;
@@ -16,9 +18,31 @@ const OTHER: &str = "*";
 const PARTS: usize = 64;
 
 /// The text of an output's pattern, by its document.
-fn match_text(root: &Table, output: usize) -> Option<&str> {
+pub(crate) fn match_text(root: &Table, output: usize) -> Option<&str> {
     let outputs = root.get("output")?.as_array()?;
     outputs.get(output)?.as_table()?.get("match")?.as_str()
+}
+
+/// Adds the texts of the patterns of so many outputs, by the document in a file. Where memory runs
+/// out the last are left out.
+pub(crate) fn add_patterns(
+    alloc: Global,
+    file: &SettingsFile<'_>,
+    outputs: usize,
+    patterns: &mut Vec<Text>,
+) {
+    let Some(root) = file.document(alloc) else {
+        return;
+    };
+    for output in 0..outputs {
+        let text = match_text(&root, output).unwrap_or("");
+        let Ok(text) = Text::from_str(alloc, text) else {
+            return;
+        };
+        if patterns.push(text).is_err() {
+            return;
+        }
+    }
 }
 
 /// Adds a text to words, with each of the alternatives and then the tail behind it.

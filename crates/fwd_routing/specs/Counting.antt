@@ -1,10 +1,11 @@
 -- What is counted of an event, and of what a worker tells: each reason has a count of its own name.
-use Rattle.std.specs.Prelude.{ℕ, ◌+◌, ◌-◌, ◌^◌, true, false, cond, length, min}
+use Rattle.std.specs.Prelude.{ℕ, ◌+◌, ◌-◌, ◌^◌, true, false, cond, length, max, min}
 use Rattle.std.specs.Option.{is_some}
 use Rattle.fwd_modes.specs.Requests.{Request}
 use Rattle.fwd_modes.specs.declared.fault.InputFault.{InputFault}
 use Rattle.fwd_modes.specs.declared.fault.InputFault.TheVariants as input
 use Rattle.fwd_monitor.specs.declared.tally.MemoryRefused.{MemoryRefused}
+use Rattle.fwd_monitor.specs.declared.tally.OutputTally.{OutputTally}
 use Rattle.fwd_monitor.specs.declared.tally.OverLimit.{OverLimit}
 use Rattle.fwd_monitor.specs.declared.tally.RequestsRefused.{RequestsRefused}
 use Rattle.fwd_monitor.specs.declared.tally.ServerTally.{ServerTally}
@@ -27,6 +28,7 @@ use Rattle.fwd_peers.specs.declared.close_reason.CloseReason.{CloseReason}
 use Rattle.fwd_peers.specs.declared.close_reason.CloseReason.TheVariants.{
   Fault,
   Refused,
+  TooLarge,
   NoRoute,
   NoLogin,
   Idle,
@@ -51,6 +53,15 @@ raised_by more n = min (n + more) (2 ^ 64 - 1)
 -- one more
 abbrev pub raised : ℕ → ℕ
 raised n = raised_by 1 n
+
+-- the bytes that are settled of those accepted, where so many are held: no fewer than before
+abbrev pub settled_bytes : (accepted held before : ℕ) → ℕ
+settled_bytes accepted held before = max (accepted - held) before
+
+-- what is counted of an output that holds so many bytes of those accepted
+abbrev pub settled_after : (accepted held : ℕ) → OutputTally → OutputTally
+settled_after accepted held t =
+    record t { settled_bytes = settled_bytes accepted held t.settled_bytes }
 
 -- a request was not admitted
 abbrev pub refused_after : AdmitRefusal → RequestsRefused → RequestsRefused
@@ -85,6 +96,7 @@ fault_after source.Closed c = record c { closed = raised c.closed }
 abbrev pub end_after : CloseReason → SourcesClosed → SourcesClosed
 end_after (Fault fault) c = fault_after fault c
 end_after (Refused _ why) c = record c { refused = refused_after why c.refused }
+end_after (TooLarge _ _ _) c = record c { refused = refused_after refusal.Full c.refused }
 end_after NoRoute c = record c { no_route = raised c.no_route }
 end_after NoLogin c = record c { no_login = raised c.no_login }
 end_after Idle c = record c { idle = raised c.idle }
@@ -121,6 +133,9 @@ memory_after _ m = m
 -- a session was lost, since its link could not be had, or failed
 abbrev pub link_after : LinkFault → SessionsLost → SessionsLost
 link_after link.Connect l = record l { connect = raised l.connect }
+link_after link.Refused l = record l { connect = raised l.connect }
+link_after link.Unanswered l = record l { connect = raised l.connect }
+link_after link.Unreachable l = record l { connect = raised l.connect }
 link_after link.Read l = record l { read = raised l.read }
 link_after link.Write l = record l { write = raised l.write }
 link_after link.Descriptors l = record l { descriptors = raised l.descriptors }

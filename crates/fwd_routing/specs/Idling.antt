@@ -3,8 +3,8 @@
 use Rattle.std.specs.Prelude.{◌≡◌, ◌-◌, ◌<◌, ◌≤◌, ◌&&◌, ℕ, Bool, true, not, Option, Some, None, is_some, option_and_then, if◌then◌else◌}
 use Rattle.slab.specs.Slab as slots
 use Rattle.fwd_peers.specs.Peers.{asks, silent_since}
-use Rattle.fwd_routing.specs.declared.connections.Connection.{Connection}
-use Rattle.fwd_routing.specs.declared.connections.Connection.TheVariants as kind
+use Rattle.fwd_routing.specs.declared.connection.Connection.{Connection}
+use Rattle.fwd_routing.specs.declared.connection.Connection.TheVariants as kind
 use Rattle.fwd_routing.specs.declared.connections.OpenConnection.{OpenConnection}
 use Rattle.fwd_routing.specs.declared.connections.Connections.{Connections}
 

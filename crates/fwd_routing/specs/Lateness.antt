@@ -2,11 +2,11 @@
 -- monitor to send its request's head.
 use Rattle.std.specs.Prelude.{◌≡◌, ◌-◌, ◌&&◌, ℕ, Bool, true, nat_le, Some}
 use Rattle.slab.specs.Slab as slots
-use Rattle.fwd_routing.specs.declared.connections.Connection.{Connection}
-use Rattle.fwd_routing.specs.declared.connections.Connection.TheVariants as kind
+use Rattle.fwd_routing.specs.declared.connection.Connection.{Connection}
+use Rattle.fwd_routing.specs.declared.connection.Connection.TheVariants as kind
 use Rattle.fwd_routing.specs.declared.connections.Connections.{Connections}
 use Rattle.fwd_routing.specs.declared.connections.OpenConnection.{OpenConnection}
-use Rattle.fwd_routing.specs.declared.connections.TheConstants.{HEAD_LIMIT, LOGIN_LIMIT}
+use Rattle.fwd_routing.specs.declared.connection.TheConstants.{HEAD_LIMIT, LOGIN_LIMIT}
 use Rattle.fwd_routing.specs.Asking.{is_asking}
 
 -- how long a connection has for that, in milliseconds

@@ -4,8 +4,8 @@ use Rattle.std.specs.Ordering.{nat_cmp}
 use Rattle.std.specs.BTreeMap as tree
 use Rattle.slab.specs.Slab as slots
 use Rattle.fwd_peers.specs.Peers.{PeerShown}
-use Rattle.fwd_routing.specs.declared.connections.Connection.{Connection}
-use Rattle.fwd_routing.specs.declared.connections.Connection.TheVariants as kind
+use Rattle.fwd_routing.specs.declared.connection.Connection.{Connection}
+use Rattle.fwd_routing.specs.declared.connection.Connection.TheVariants as kind
 use Rattle.fwd_routing.specs.declared.connections.Idle.{Idle}
 use Rattle.fwd_routing.specs.declared.connections.OpenConnection.{OpenConnection}
 use Rattle.fwd_routing.specs.declared.connections.Connections.{Connections}

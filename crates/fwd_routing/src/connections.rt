@@ -3,64 +3,25 @@
 ghost use Rattle.std.specs.Prelude.{◌≡◌, ℕ, true, IfNone, IfSome};
 ghost use Rattle.fwd_routing.specs.Idling.{IsCrowding, IsIdlest, NoneIsIdle};
 ghost use Rattle.fwd_routing.specs.Idling as idling;
-ghost use Rattle.fwd_routing.specs.Lateness.{IsLate, is_late, is_unknown, limit_of};
+ghost use Rattle.fwd_routing.specs.Lateness.{IsLate, is_late};
 ghost use Rattle.fwd_routing.specs.OpenConnections.{longer_idle, source_with, sources_in};
 ghost use Rattle.fwd_routing.specs.Tellings.{AreTold, IsToldAt, IsToldOf};
 
+use crate::connection::{Connection, HEAD_LIMIT, LOGIN_LIMIT};
 use crate::crowder::Crowder;
 use crate::deadlines::{Deadlines, Unidentified};
-use crate::monitor_peer::MonitorPeer;
 use fwd_book::Receipt;
 use fwd_peers::SourcePeer;
-use mio::net::TcpStream;
 use mio::{Interest, Registry, Token};
 use slab::Slab;
 use std::alloc::{AllocError, Global};
 use std::collections::{BTreeMap, VecDeque};
 use std::mem;
+use std::net::SocketAddr;
 
-/// How long a source has to log in, where a shared key is set, in milliseconds.
-const LOGIN_LIMIT: u64 = 30_000;
-
-/// How long a monitor has to send its request's head, in milliseconds.
-const HEAD_LIMIT: u64 = 10_000;
-
-/// A connection.
-#[derive(Drop)]
-pub enum Connection {
-    Source(SourcePeer),
-    Monitor(MonitorPeer),
-}
-
-impl Connection {
-    /// Its stream.
-    fn stream(&mut self) -> &mut TcpStream {
-        match self {
-            Connection::Source(source) => &mut source.stream.tcp,
-            Connection::Monitor(monitor) => &mut monitor.stream.tcp,
-        }
-    }
-
-    /// Whether it has yet to show what it is: a source to log in, a monitor to send its head.
-    fn is_unknown(&self) -> bool
-        ensures { result ≡ is_unknown self.now }
-    {
-        match self {
-            Connection::Source(source) => source.awaits_login(),
-            Connection::Monitor(monitor) => monitor.awaits_head(),
-        }
-    }
-
-    /// How long it has for that, in milliseconds.
-    fn limit(&self) -> u64
-        ensures { result ≡ limit_of self.now }
-    {
-        match self {
-            Connection::Source(_) => LOGIN_LIMIT,
-            Connection::Monitor(_) => HEAD_LIMIT,
-        }
-    }
-}
+/// Of so many sources at a time it is watched whether they say anything: the journal has room for
+/// ten lines a second.
+const WATCHED: usize = 4_096;
 
 /// A connection that is open.
 #[derive(Drop)]
@@ -192,6 +153,8 @@ pub struct Connections {
     logins: Deadlines,
     /// Monitors that may have yet to send their heads.
     heads: Deadlines,
+    /// The sources that are not asked to log in, and may never say anything.
+    silent: Deadlines,
     /// How many of the sources take a place though requests of them wait.
     crowding: usize,
     /// How many of the sources are kept, and take no place.
@@ -221,6 +184,7 @@ impl Connections {
             monitors: Vec::new(alloc),
             logins: Deadlines::new(alloc, LOGIN_LIMIT),
             heads: Deadlines::new(alloc, HEAD_LIMIT),
+            silent: Deadlines::new(alloc, LOGIN_LIMIT),
             crowding: 0,
             kept: 0,
             kept_limit,
@@ -310,6 +274,8 @@ impl Connections {
             Some(id) => {
                 if self.is_unknown(key) {
                     self.logins.add(unidentified)?;
+                } else if self.silent.len() < WATCHED {
+                    let _ = self.silent.add(unidentified);
                 }
                 self.sources.insert(id, key)?;
             }
@@ -351,6 +317,22 @@ impl Connections {
             };
             if self.is_late(unidentified.key, now) {
                 return Some(unidentified.key);
+            }
+        }
+        None
+    }
+
+    /// Where a source comes from that had its time by a moment (milliseconds), was not asked to log
+    /// in, and has said nothing. Each is named once.
+    pub fn next_silent(&mut self, now: u64) -> Option<SocketAddr> {
+        for _ in 0..u32::MAX {
+            let Unidentified { key, came } = self.silent.next(now)?;
+            match self.opened.get(key) {
+                Some(opened) if opened.came == came => match &opened.connection {
+                    Connection::Source(source) if source.is_silent() => return Some(source.peer()),
+                    _ => {}
+                },
+                _ => {}
             }
         }
         None

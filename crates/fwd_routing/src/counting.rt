@@ -17,10 +17,13 @@ ghost use Rattle.fwd_routing.specs.Counting.{
   refused_after,
   scanned_after,
   server_after,
+  settled_after,
+  settled_bytes,
   purpose_after,
 };
 
 use crate::observer::{JournalEvent, ListenerKind, MemoryFor};
+use crate::output_route::Accepted;
 use fwd_modes::InputFault;
 use fwd_monitor::{
     MemoryRefused, OutputTally, OverLimit, RelayTally, RequestsRefused, ServerTally, SessionsLost,
@@ -57,6 +60,7 @@ pub(crate) fn count_event(tally: &mut RelayTally, event: JournalEvent)
     count_over_limit(&mut tally.over_limit, event);
     count_memory(&mut tally.memory, event);
     count_refused(&mut tally.outputs, event);
+    count_chunk(&mut tally.outputs, event);
 }
 
 /// Counts a source that is closed, if the event is of one.
@@ -77,6 +81,7 @@ fn count_end(closed: &mut SourcesClosed, why: CloseReason)
     match why {
         CloseReason::Fault(fault) => count_fault(closed, fault),
         CloseReason::Refused(_, refusal) => count_refusal(&mut closed.refused, refusal),
+        CloseReason::TooLarge { .. } => count_refusal(&mut closed.refused, AdmitRefusal::Full),
         CloseReason::NoRoute => raise(&mut closed.no_route),
         CloseReason::NoLogin => raise(&mut closed.no_login),
         CloseReason::Idle => raise(&mut closed.idle),
@@ -180,20 +185,49 @@ fn count_refused(outputs: &mut Vec<OutputTally>, event: JournalEvent) {
     let JournalEvent::SourceClosed { peer: _, why } = event else {
         return;
     };
-    let CloseReason::Refused(output, refusal) = why else {
-        return;
+    let (output, refusal) = match why {
+        CloseReason::Refused(output, refusal) => (output, refusal),
+        CloseReason::TooLarge { output, .. } => (output, AdmitRefusal::Full),
+        _ => return,
     };
     if let Some(own) = outputs.get_mut(output as usize) {
         count_refusal(&mut own.refused, refusal);
     }
 }
 
-/// Counts so many entries that the output of this number accepted of sources that asked for no
-/// acknowledgement.
-pub(crate) fn count_without_ack(outputs: &mut Vec<OutputTally>, output: u16, entries: u64) {
+/// Counts a chunk that a server seems to refuse, if the event is of one.
+fn count_chunk(outputs: &mut Vec<OutputTally>, event: JournalEvent) {
+    let JournalEvent::ChunkRefused { output, .. } = event else {
+        return;
+    };
     if let Some(own) = outputs.get_mut(output as usize) {
-        raise_by(&mut own.without_ack, entries);
+        raise(&mut own.chunks_refused);
     }
+}
+
+/// Counts what the output of this number accepted.
+pub(crate) fn count_accepted(outputs: &mut Vec<OutputTally>, output: u16, accepted: Accepted) {
+    if let Some(own) = outputs.get_mut(output as usize) {
+        raise_by(&mut own.without_ack, accepted.without_ack);
+        raise_by(&mut own.accepted_bytes, accepted.bytes);
+    }
+}
+
+/// The bytes that are settled of those that an output accepted, where it holds so many, and so many
+/// were settled before. What is accepted is counted later than it is held: so it is no less than
+/// before.
+fn settled_bytes(accepted: u64, held: u64, before: u64) -> u64
+    ensures { result ≡ settled_bytes accepted held before }
+{
+    accepted.saturating_sub(held).max(before)
+}
+
+/// Counts what is settled at an output that holds so many bytes, by what was counted of it before
+/// these were looked at.
+pub(crate) fn count_settled(own: &mut OutputTally, held: u64, accepted: u64)
+    ensures { own.new ≡ settled_after accepted held own.old }
+{
+    own.settled_bytes = settled_bytes(accepted, held, own.settled_bytes);
 }
 
 /// Counts what a worker of the output of this number told of a server.
@@ -261,7 +295,8 @@ fn count_link(lost: &mut SessionsLost, fault: LinkFault)
     ensures { lost.new ≡ link_after fault lost.old }
 {
     match fault {
-        LinkFault::Connect => raise(&mut lost.connect),
+        LinkFault::Connect | LinkFault::Refused | LinkFault::Unanswered | LinkFault::Unreachable =>
+            raise(&mut lost.connect),
         LinkFault::Read => raise(&mut lost.read),
         LinkFault::Write => raise(&mut lost.write),
         LinkFault::Descriptors => raise(&mut lost.descriptors),

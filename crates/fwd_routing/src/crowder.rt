@@ -1,4 +1,4 @@
-//! Which of the sources that wait gives its place to a new one.
+//! Which of the sources that wait gives its place first.
 
 /// A source that waits and may give its place to a new one.
 #[derive(Clone, Copy)]

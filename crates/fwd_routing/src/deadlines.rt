@@ -29,6 +29,11 @@ impl Deadlines {
         }
     }
 
+    /// How many they are.
+    pub fn len(&self) -> usize {
+        self.unidentified.len()
+    }
+
     /// A connection came. The only error is out of memory.
     pub fn add(&mut self, unidentified: Unidentified) -> Result<(), AllocError> {
         match self.unidentified.push_back(unidentified) {

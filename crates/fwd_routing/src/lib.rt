@@ -6,6 +6,7 @@
 //! whole crate.
 #![tactic(auto)]
 
+mod connection;
 mod connections;
 mod counting;
 mod crowder;
@@ -26,7 +27,8 @@ mod shared_tally;
 mod waiting_line;
 mod waiting_tally;
 
-pub use connections::{Connection, Connections, Ready};
+pub use connection::Connection;
+pub use connections::{Connections, Ready};
 pub use flush_timer::FlushTimer;
 pub use fwd_monitor::Figures;
 pub use hearers::Hearers;

@@ -2,7 +2,8 @@
 
 use crate::output::{Output, figures_of, reports_of};
 use crate::shared_tally::SharedTally;
-use fwd_monitor::{Figures, Reply, answer, metrics_reply};
+use fwd_base::Text;
+use fwd_monitor::{Figures, OutputFigures, Reply, answer, metrics_reply};
 use std::alloc::{AllocError, Global};
 use std::sync::{Arc, Wait};
 
@@ -157,6 +158,20 @@ fn lines_of<R: Wait>(
     }
 }
 
+/// Adds the outputs' patterns to what is said of them. The only error is out of memory.
+fn name_outputs(
+    alloc: Global,
+    figures: &mut Vec<OutputFigures>,
+    patterns: &[Text],
+) -> Result<(), AllocError> {
+    for (place, pattern) in patterns.iter().enumerate() {
+        if let Some(own) = figures.get_mut(place) {
+            own.pattern = Text::from_str(alloc, pattern.as_str())?;
+        }
+    }
+    Ok(())
+}
+
 /// The metrics page, as it is sent.
 fn metrics_of<R: Wait>(
     rt: &R,
@@ -165,9 +180,11 @@ fn metrics_of<R: Wait>(
     figures: Figures,
 ) -> Result<Arc<Vec<u8>>, AllocError> {
     let PageParts { outputs, tally } = parts;
-    let own = figures_of(rt, alloc, outputs, figures.uptime)?;
-    let tally = tally.copy(rt, alloc)?;
+    let mut own = figures_of(rt, alloc, outputs, figures.uptime)?;
+    name_outputs(alloc, &mut own, &tally.patterns)?;
+    let mut counted = tally.copy(rt, alloc)?;
     let reports = reports_of(rt, alloc, outputs)?;
-    let reply = metrics_reply(alloc, figures, &own, &reports, &tally)?;
+    tally.settle(rt, &mut counted, &reports);
+    let reply = metrics_reply(alloc, figures, &own, &reports, &counted)?;
     Ok(Arc::new(alloc, reply)?)
 }

@@ -1,10 +1,11 @@
 //! The monitors that stand.
 
-use crate::connections::{Connection, Connections};
+use crate::connection::Connection;
+use crate::connections::Connections;
 use crate::made_page::MadePage;
 use crate::monitor_peer::MonitorPeer;
 use crate::page_desk::PageDesk;
-use fwd_monitor::Figures;
+use fwd_monitor::{Figures, ProcessFigures};
 use std::sync::Wait;
 
 /// How many pages may be kept at a time, since monitors are sent them: no further one is made
@@ -38,8 +39,8 @@ impl Connections {
     }
 
     /// What is known of the relay at a moment (milliseconds since it started), where so many
-    /// sources are connected beside those that stand here, and so many may be. When it started and
-    /// whether it was asked to stop is not known here.
+    /// sources are connected beside those that stand here, and so many may be. When it started,
+    /// whether it was asked to stop, and what its observer knows is not known here.
     pub fn figures(&self, others: usize, limit: usize, now: u64) -> Figures {
         Figures {
             start: None,
@@ -47,7 +48,24 @@ impl Connections {
             sources: self.sources().saturating_add(others) as u64,
             source_limit: limit as u64,
             is_draining: false,
+            left_out: 0,
+            process: ProcessFigures::UNKNOWN,
         }
+    }
+
+    /// Whether a page may be ordered, and a monitor wants one.
+    pub fn is_page_due(&mut self) -> bool {
+        if self.pages() >= PAGES {
+            return false;
+        }
+        for place in 0..self.monitors() {
+            if let Some((_, monitor)) = self.monitor_at(place) {
+                if monitor.wants().is_some() {
+                    return true;
+                }
+            }
+        }
+        false
     }
 
     /// Orders a page for the monitors that want it, where this is known of the relay, but where too

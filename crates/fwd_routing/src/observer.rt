@@ -1,7 +1,8 @@
 //! What a run tells of itself as it goes on.
 
+use fwd_monitor::Figures;
 use fwd_peers::{CloseReason, PeerEnd};
-use fwd_workers::{LossReason, TagFront};
+use fwd_workers::{LossReason, TextFront};
 use std::net::SocketAddr;
 
 /// Who connects to a listener.
@@ -43,13 +44,19 @@ pub enum JournalEvent {
     /// It closes a source, since no output takes the tag of its request, which begins so.
     Unrouted {
         peer: SocketAddr,
-        tag: TagFront,
+        tag: TextFront,
+    },
+    /// A source, which is not asked to log in, has said nothing since it came.
+    Silent {
+        peer: SocketAddr,
     },
     /// A server of the output of this number is lost.
     ServerLost {
         output: u16,
         server: SocketAddr,
         why: LossReason,
+        /// What the server said, if it did not let a worker in.
+        said: Option<TextFront>,
     },
     /// A server that was lost acknowledged a chunk.
     ServerBack {
@@ -68,7 +75,7 @@ pub enum JournalEvent {
         output: u16,
         server: SocketAddr,
         /// The first bytes of the chunk's tag.
-        tag: TagFront,
+        tag: TextFront,
         /// The bytes of its entries.
         size: u64,
         /// How often it was lost.
@@ -113,7 +120,7 @@ impl JournalEvent {
     pub fn of_source(peer: SocketAddr, end: PeerEnd, tag: Option<&[u8]>) -> JournalEvent {
         match end {
             PeerEnd::Closed(CloseReason::NoRoute) => {
-                let tag = TagFront::of(tag.unwrap_or(&[]));
+                let tag = TextFront::of(tag.unwrap_or(&[]));
                 JournalEvent::Unrouted { peer, tag }
             }
             PeerEnd::Closed(why) => JournalEvent::SourceClosed { peer, why },
@@ -128,6 +135,12 @@ impl JournalEvent {
 pub trait Observer {
     /// An event is told, when it happens or within a turn of it.
     fn observe(&mut self, event: JournalEvent);
+
+    /// What is known of the relay, with what the observer knows beside: what it left out, and what
+    /// the system tells of the process. It is called for each metrics page.
+    fn complete(&mut self, figures: Figures) -> Figures {
+        figures
+    }
 
     /// A turn of the loop is over. The next one waits at most 100 milliseconds.
     fn turned(&mut self) {}

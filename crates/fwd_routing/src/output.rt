@@ -7,9 +7,11 @@ ghost use Rattle.fwd_routing.specs.Ends.{AddUp};
 use crate::hearers::Hearers;
 use crate::waiting_line::WaitingLine;
 use crate::waiting_tally::WaitingTally;
+use fwd_base::Text;
 use fwd_chunks::Report;
 use fwd_links::WorkerWaker;
 use fwd_monitor::OutputFigures;
+use fwd_peers::CloseReason;
 use fwd_workers::{Plain, SharedOutput};
 use std::alloc::{AllocError, Global};
 use std::net::SocketAddr;
@@ -31,6 +33,17 @@ pub struct Output {
     pub line: WaitingLine,
     /// What waits.
     pub waiting: WaitingTally,
+}
+
+/// Why a source is closed, whose request has so many bytes, at one of these outputs.
+pub(crate) fn sized(outputs: &[Output], why: CloseReason, bytes: u64) -> CloseReason {
+    let CloseReason::Refused(output, _) = why else {
+        return why;
+    };
+    match outputs.get(output as usize) {
+        None => why,
+        Some(own) => why.sized(bytes, own.total),
+    }
 }
 
 impl Output {
@@ -82,8 +95,8 @@ fn age_at(now: u64, since: Option<u64>) -> u64
 }
 
 /// The most bytes of entries that each output holds, how old its oldest chunk is at a moment
-/// (milliseconds), and what waits there, in their order. Each is locked by itself for a moment. The
-/// only error is out of memory.
+/// (milliseconds), and what waits there, in their order, without their patterns. Each is locked by
+/// itself for a moment. The only error is out of memory.
 pub(crate) fn figures_of<R: Wait>(
     rt: &R,
     alloc: Global,
@@ -96,6 +109,7 @@ pub(crate) fn figures_of<R: Wait>(
     let mut figures = Vec::with_capacity(alloc, outputs.len())?;
     for output in outputs {
         figures.push(OutputFigures {
+            pattern: Text::from_string(String::new(alloc)),
             total_limit: output.total,
             oldest_age: age_at(now, output.shared.oldest(rt)),
             waiting_sources: output.waiting.sources(),

@@ -45,6 +45,23 @@ fn silent_entries(batch: &Batch) -> u64
     }
 }
 
+/// What an output accepted.
+#[derive(Clone, Copy)]
+pub(crate) struct Accepted {
+    /// So many entries whose sources asked for no acknowledgement.
+    pub without_ack: u64,
+    /// So many bytes of entries, of all sources.
+    pub bytes: u64,
+}
+
+impl Accepted {
+    /// Nothing.
+    const NOTHING: Accepted = Accepted {
+        without_ack: 0,
+        bytes: 0,
+    };
+}
+
 /// Which chunks a flush closes, where sources wait for room or not.
 fn kind_of(is_crowded: bool) -> FlushKind
     ensures crowded { is_crowded ≡ true → result ≡ FlushKind.All }
@@ -68,9 +85,8 @@ pub(crate) struct OutputRoute<'a> {
     /// What requests took beside their entries that were answered since that was last asked for, in
     /// bytes.
     answered: u64,
-    /// So many entries were accepted since that was last asked for whose sources asked for no
-    /// acknowledgement.
-    without_ack: u64,
+    /// What was accepted since that was last asked for.
+    accepted: Accepted,
 }
 
 impl<'a> OutputRoute<'a> {
@@ -85,7 +101,7 @@ impl<'a> OutputRoute<'a> {
             timer,
             newest: None,
             answered: 0,
-            without_ack: 0,
+            accepted: Accepted::NOTHING,
         }
     }
 
@@ -108,12 +124,16 @@ impl<'a> OutputRoute<'a> {
         let shared = &self.output.shared;
         let (origin, batch) = asked;
         let silent = silent_entries(&batch);
+        let bytes = batch.entries().len() as u64;
         let ticket = match shared.admit(rt, self.alloc, &mut (), origin, batch, now) {
             Ok(ticket) => ticket,
             Err((refusal, _)) => return Err(refusal),
         };
         self.timer.admitted();
-        self.without_ack = self.without_ack.saturating_add(silent);
+        self.accepted = Accepted {
+            without_ack: self.accepted.without_ack.saturating_add(silent),
+            bytes: self.accepted.bytes.saturating_add(bytes),
+        };
         if ticket.output() != number {
             shared.abandon(rt, ticket);
             return Err(AdmitRefusal::NotNow);
@@ -209,12 +229,11 @@ impl<'a> OutputRoute<'a> {
         mem::replace(&mut self.answered, 0)
     }
 
-    /// How many entries were accepted since the last call whose sources asked for no
-    /// acknowledgement.
-    pub fn take_without_ack(&mut self) -> u64
+    /// What was accepted since the last call.
+    pub fn take_accepted(&mut self) -> Accepted
         ensures { self.new.open_tickets ≡ self.old.open_tickets }
     {
-        mem::replace(&mut self.without_ack, 0)
+        mem::replace(&mut self.accepted, Accepted::NOTHING)
     }
 
     /// The tickets that are left are abandoned.
@@ -226,7 +245,7 @@ impl<'a> OutputRoute<'a> {
             timer: _,
             newest: _,
             answered: _,
-            without_ack: _,
+            accepted: _,
         } = self;
         open_tickets.close(rt, output);
     }

@@ -3,7 +3,7 @@
 //! lock holds up that output.
 
 use crate::made_page::{Asked, MadePage, PageKind, PageParts};
-use fwd_monitor::Figures;
+use fwd_monitor::{Figures, ProcessFigures};
 use std::alloc::Global;
 use std::sync::{Condvar, Mutex, Wait};
 
@@ -20,6 +20,8 @@ const NOTHING: Figures = Figures {
     sources: 0,
     source_limit: 0,
     is_draining: false,
+    left_out: 0,
+    process: ProcessFigures::UNKNOWN,
 };
 
 /// What is asked of the thread that makes pages, and what it made.

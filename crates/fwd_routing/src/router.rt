@@ -11,8 +11,8 @@ use crate::flush_timer::FlushTimer;
 use crate::intake::Intake;
 use crate::observer::{JournalEvent, MemoryFor, Observer};
 use crate::open_tickets::Backlog;
-use crate::output::Output;
-use crate::output_route::OutputRoute;
+use crate::output::{Output, sized};
+use crate::output_route::{Accepted, OutputRoute};
 use crate::shared_tally::SharedTally;
 use crate::waiting_line::Crowd;
 use fwd_links::Notices;
@@ -142,11 +142,12 @@ impl<'a> Router<'a> {
         ensures { self.new.routes ≡ self.old.routes }
     {
         for _ in 0..source.waiting() {
+            let bytes = source.asked_bytes() as u64;
             match self.admit(rt, source, now) {
                 Ok(()) => {}
                 Err(NotAdmitted::Waits) => return true,
                 Err(NotAdmitted::Ends(why)) => {
-                    source.refuse(why);
+                    source.refuse(sized(self.outputs, why, bytes));
                     return false;
                 }
             }
@@ -366,8 +367,7 @@ impl<'a> Router<'a> {
         }
     }
 
-    /// Counts the entries that were accepted since the last call whose sources asked for no
-    /// acknowledgement.
+    /// Counts what was accepted since the last call.
     pub fn count<R: Wait>(&mut self, rt: &R, tally: &SharedTally)
         ensures { self.new ≡ self.old }
     {
@@ -375,20 +375,20 @@ impl<'a> Router<'a> {
             if self.all.len() <= number as usize {
                 break;
             }
-            let entries = self.take_without_ack(number);
-            tally.accept_without_ack(rt, number, entries);
+            if let Some(accepted) = self.take_accepted(number) {
+                tally.accept(rt, number, accepted);
+            }
         }
     }
 
-    /// How many entries the output of this number accepted since the last call whose sources asked
-    /// for no acknowledgement.
-    fn take_without_ack(&mut self, number: u16) -> u64
+    /// What the output of this number accepted since the last call.
+    fn take_accepted(&mut self, number: u16) -> Option<Accepted>
         ensures { self.new ≡ self.old }
     {
         let Some(output_route) = self.all.get_mut(number as usize) else {
-            return 0;
+            return None;
         };
-        output_route.take_without_ack()
+        Some(output_route.take_accepted())
     }
 
     /// Workers settled chunks: the tickets that waited for those are to be handed in.

@@ -1,12 +1,15 @@
 //! What a relay counts for its metrics page, as its threads share it.
 
-use crate::counting::{count_event, count_news, count_without_ack};
+use crate::counting::{count_accepted, count_event, count_news, count_settled};
 use crate::observer::{JournalEvent, Observer};
 use crate::output::Output;
+use crate::output_route::Accepted;
+use fwd_base::Text;
+use fwd_chunks::Report;
 use fwd_links::Notices;
 use fwd_monitor::{
-    MemoryRefused, OutputTally, OverLimit, RelayTally, RequestsRefused, ServerTally, SessionsLost,
-    SourcesClosed,
+    Figures, MemoryRefused, OutputTally, OverLimit, RelayTally, RequestsRefused, ServerTally,
+    SessionsLost, SourcesClosed,
 };
 use std::alloc::{AllocError, Global};
 use std::net::SocketAddr;
@@ -61,6 +64,8 @@ const NONE_LOST: SessionsLost = SessionsLost {
 pub struct SharedTally {
     tally: Mutex<RelayTally>,
     is_kept: bool,
+    /// The match patterns of the outputs, as the settings have them.
+    pub patterns: Vec<Text>,
 }
 
 /// A tally at nothing, of these outputs. The only error is out of memory.
@@ -85,6 +90,9 @@ fn nothing_of(alloc: Global, outputs: &[Output]) -> Result<RelayTally, AllocErro
         tally.outputs.push(OutputTally {
             refused: NONE_REFUSED,
             without_ack: 0,
+            accepted_bytes: 0,
+            settled_bytes: 0,
+            chunks_refused: 0,
         })?;
         add_servers(&mut tally.servers, number, &output.servers)?;
     }
@@ -123,6 +131,7 @@ impl SharedTally {
         Ok(SharedTally {
             tally: Mutex::new(nothing_of(alloc, outputs)?),
             is_kept,
+            patterns: Vec::new(alloc),
         })
     }
 
@@ -144,11 +153,26 @@ impl SharedTally {
         }
     }
 
-    /// So many entries were accepted at the output of this number whose source asked for no
-    /// acknowledgement.
-    pub(crate) fn accept_without_ack<R: Wait>(&self, rt: &R, output: u16, entries: u64) {
-        if self.is_kept && entries > 0 {
-            count_without_ack(&mut self.tally.lock(rt).outputs, output, entries);
+    /// The output of this number accepted so much.
+    pub(crate) fn accept<R: Wait>(&self, rt: &R, output: u16, accepted: Accepted) {
+        if self.is_kept && accepted.bytes > 0 {
+            count_accepted(&mut self.tally.lock(rt).outputs, output, accepted);
+        }
+    }
+
+    /// Counts what is settled in a copy of what was counted, by reports that are later than it, and
+    /// keeps that, so that it never falls.
+    pub(crate) fn settle<R: Wait>(&self, rt: &R, copy: &mut RelayTally, reports: &[Report]) {
+        let mut tally = self.tally.lock(rt);
+        for (place, report) in reports.iter().enumerate() {
+            let (Some(own), Some(kept)) = (
+                copy.outputs.get_mut(place),
+                tally.outputs.get_mut(place),
+            ) else {
+                return;
+            };
+            count_settled(kept, report.counts.bytes, own.accepted_bytes);
+            own.settled_bytes = kept.settled_bytes;
         }
     }
 
@@ -170,5 +194,9 @@ impl<'a, R: Wait, W: Observer> Observer for TallyObserver<'a, R, W> {
     fn observe(&mut self, event: JournalEvent) {
         self.tally.observe(self.rt, event);
         self.observer.observe(event);
+    }
+
+    fn complete(&mut self, figures: Figures) -> Figures {
+        self.observer.complete(figures)
     }
 }

@@ -69,6 +69,9 @@ unmet_of link.Read = unmet.Link link.Read
 unmet_of link.Write = unmet.Link link.Write
 unmet_of link.Descriptors = unmet.Link link.Descriptors
 unmet_of link.Memory = unmet.Memory
+unmet_of link.Refused = unmet.Link link.Refused
+unmet_of link.Unanswered = unmet.Link link.Unanswered
+unmet_of link.Unreachable = unmet.Link link.Unreachable
 
 -- where no session began: the server is lost where no link to it could be had, and no server is
 -- where memory was refused

@@ -1,5 +1,6 @@
 //! What a worker remembers of losses, by which it chooses with which chunk it tries a server.
 
+use crate::denial::Denial;
 use crate::ending::EndReason;
 use crate::refused::{Refused, Suspect};
 use crate::tally::Tally;
@@ -28,6 +29,12 @@ pub(crate) struct Doubts {
     pub suspect: Option<Suspect>,
     /// The chunk that its server refused in this turn, until it is told.
     pub refused: Option<Refused>,
+    /// The server that let it not in in this turn, until it is told.
+    pub denial: Option<Denial>,
+    /// Its session was sought, and the next chunk was lost there and is to go elsewhere.
+    pub leaves: bool,
+    /// The chunk for which its session was sought elsewhere, by its number.
+    pub errand: Option<u64>,
 }
 
 impl Doubts {
@@ -40,6 +47,9 @@ impl Doubts {
             is_asking: false,
             suspect: None,
             refused: None,
+            denial: None,
+            leaves: false,
+            errand: None,
         }
     }
 
@@ -47,6 +57,8 @@ impl Doubts {
     pub(crate) fn begin(&mut self) {
         self.ask = None;
         self.is_asking = false;
+        self.leaves = false;
+        self.errand = None;
     }
 
     /// What is told of a chunk if its session ends now: it was lost twice before, and its server is

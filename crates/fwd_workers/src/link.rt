@@ -16,6 +16,7 @@ ghost use Rattle.std.specs.List.{concat};
 ghost use Rattle.fwd_chunks.specs.Lending.{AreSome};
 ghost use Rattle.fwd_workers.specs.Links.{Call, DidWrite, HasOffered, count_read, read_into};
 
+use crate::denial::Denial;
 use crate::refused::Refused;
 use fwd_chunks::WriteSlices;
 use fwd_session::SessionFault;
@@ -35,7 +36,7 @@ pub enum Read {
 /// Why a link cannot go on.
 #[derive(Clone, Copy, Debug)]
 pub enum LinkFault {
-    /// It could not be had.
+    /// It could not be had, for another reason than those below.
     Connect = 1,
     /// It could not be read.
     Read = 2,
@@ -45,6 +46,12 @@ pub enum LinkFault {
     Descriptors = 4,
     /// It could not be had, since memory was refused for it: no server is to blame.
     Memory = 5,
+    /// It could not be had: nobody listens there.
+    Refused = 6,
+    /// It could not be had: nothing answered in time.
+    Unanswered = 7,
+    /// It could not be had: the system knows no way there.
+    Unreachable = 8,
 }
 
 /// A link to a server, which tells its calls.
@@ -164,6 +171,10 @@ pub trait Gate {
 
     /// The worker of this number tells what its turn came to.
     fn hear<R: Wait>(&mut self, _rt: &R, _worker: u16, _news: WorkerEvent) {}
+
+    /// The worker of this number tells why a server does not let it in, just before it tells that
+    /// that server is lost.
+    fn hear_denial<R: Wait>(&mut self, _rt: &R, _worker: u16, _denial: Denial) {}
 
     /// The worker of this number tells that a server seems to refuse a chunk.
     fn hear_refused<R: Wait>(&mut self, _rt: &R, _worker: u16, _refused: Refused) {}

@@ -78,8 +78,11 @@ ghost use Rattle.fwd_workers.specs.Turns.{
 
 use crate::chunk_starts::ChunkStarts;
 use crate::collecting::{due_of, hand_out, shows};
+use crate::lost_at::LostAt;
 use crate::outlook::{Outlook, Picked};
 use crate::refusal::AdmitRefusal;
+use crate::server_order::ServerOrder;
+use crate::server_set::ServerSet;
 use crate::tally::{Ledgered, Seat, Tally};
 use crate::ticket::Ticket;
 use fwd_book::Receipt;
@@ -107,6 +110,11 @@ pub struct Locked<A: Tally, S: Tally> {
     /// When the chunks were begun that are not settled. Where memory is refused for a chunk it does
     /// not stand there.
     begun: ChunkStarts,
+    /// Where the chunks were lost that are not settled, the first ones of their sessions.
+    lost_at: LostAt,
+    /// The output's servers, where they are known. Where they are not, a chunk that was lost goes
+    /// where any chunk goes.
+    order: Option<ServerOrder>,
 }
 
 impl<A: Tally, S: Tally> Model for Locked<A, S> {
@@ -144,7 +152,18 @@ impl<A: Tally, S: Tally> Locked<A, S> {
             settled,
             claimed: 0,
             begun: ChunkStarts::new(alloc),
+            lost_at: LostAt::new(alloc),
+            order: None,
         }
+    }
+
+    /// The same, with its servers: a chunk that was lost at one of them goes to another.
+    pub fn with_order(self, order: ServerOrder) -> Self
+        ensures { result ≡ self }
+    {
+        let mut locked = self;
+        locked.order = Some(order);
+        locked
     }
 
     /// What is true of every output, among it that it is the live part of a history that a run of
@@ -371,8 +390,71 @@ impl<A: Tally, S: Tally> Locked<A, S> {
             None => Ok(None),
             Some(chunk) => {
                 let losses = self.state.losses(&chunk);
-                Ok(Some(Picked { chunk, losses }))
+                let (lost_at, elsewhere) = self.way_of(chunk.number(), worker, now);
+                Ok(Some(Picked {
+                    chunk,
+                    losses,
+                    lost_at,
+                    elsewhere,
+                }))
             }
+        }
+    }
+
+    /// Where a chunk was lost, and the server elsewhere for it at a moment (milliseconds), if it
+    /// was lost and there is one.
+    fn way_of(&self, chunk: u64, worker: u16, now: u64) -> (ServerSet, Option<u16>) {
+        match (self.lost_at.of(chunk), &self.order) {
+            (Some(lost_at), Some(order)) => (lost_at, order.elsewhere(worker, &lost_at, now)),
+            _ => (ServerSet::none(), None),
+        }
+    }
+
+    /// A server could not be had for a chunk. If that was lost before, it counts as lost there too.
+    pub(crate) fn miss(&mut self, chunk: u64, server: u16)
+        ensures { self.new ≡ self.old }
+    {
+        self.lost_at.miss(chunk, server);
+    }
+
+    /// A server may be lost at a moment (milliseconds), with a chunk that was taken for it, and
+    /// with those that it owed an acknowledgement, of which the first counts: the others were lost
+    /// with that one, since a server takes them in their order.
+    fn note_lost(
+        &mut self,
+        server: Option<u16>,
+        taken: &Option<Carried>,
+        loaded: &[Carried],
+        now: u64,
+    )
+        ensures { self.new ≡ self.old }
+    {
+        let (Some(order), Some(server)) = (&mut self.order, server) else {
+            return;
+        };
+        order.lost(server, now);
+        if order.is_single() {
+            return;
+        }
+        if let Some(chunk) = taken {
+            self.lost_at.miss(chunk.number(), server);
+        }
+        if let Some(chunk) = loaded.first() {
+            self.lost_at.lose(chunk.number(), server);
+        }
+    }
+
+    /// A server settled so many entries of a chunk: all that it has, or none, where it is not the
+    /// output's.
+    fn note_settled(&mut self, server: u16, chunk: u64, entries: u64)
+        ensures { self.new ≡ self.old }
+    {
+        if entries == 0 {
+            return;
+        }
+        self.lost_at.settle(chunk);
+        if let Some(order) = &mut self.order {
+            order.settled(server);
         }
     }
 
@@ -422,10 +504,12 @@ impl<A: Tally, S: Tally> Locked<A, S> {
     {
         self.state.is_sound();
         let number = carried.number();
+        let server = acked.server();
         let count = self.state.settle(acked, carried) as u64;
         self.state.is_sound();
         self.settled.add(seat, count);
         self.begun.settle(number, count);
+        self.note_settled(server, number, count);
         count
     }
 
@@ -454,6 +538,7 @@ impl<A: Tally, S: Tally> Locked<A, S> {
         ensures same { seat.new ≡ seat.old }
     {
         let _ = seat;
+        self.note_lost(server, &taken, &loaded, now);
         self.state.end(taken, loaded, server, now);
     }
 }
@@ -485,6 +570,8 @@ impl<L: Ledger, M: Ledger> Locked<Ledgered<L>, Ledgered<M>> {
             settled,
             claimed: _,
             begun: _,
+            lost_at: _,
+            order: _,
         } = self;
         state.is_sound();
         accepted.audit(admit_seats);

@@ -16,7 +16,12 @@ pub(crate) fn unused(alloc: Global, picked: Picked) -> Leaving
     ensures loaded { result.loaded.items ≡ [] }
     ensures server { result.server ≡ None }
 {
-    let Picked { chunk, losses: _ } = picked;
+    let Picked {
+        chunk,
+        losses: _,
+        lost_at: _,
+        elsewhere: _,
+    } = picked;
     Leaving {
         taken: Some(chunk),
         loaded: Vec::new(alloc),

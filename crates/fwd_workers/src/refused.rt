@@ -9,20 +9,20 @@ const SHOWN: usize = 64;
 
 /// The first bytes of a tag, at most 64.
 #[derive(Clone, Copy)]
-pub struct TagFront {
+pub struct TextFront {
     bytes: [u8; SHOWN],
     count: usize,
 }
 
-impl TagFront {
+impl TextFront {
     /// The first bytes of this tag.
-    pub fn of(tag: &[u8]) -> TagFront {
+    pub fn of(tag: &[u8]) -> TextFront {
         let mut bytes = [0; SHOWN];
         for (to, byte) in bytes.iter_mut().zip(tag) {
             *to = *byte;
         }
         let count = tag.len().min(SHOWN);
-        TagFront { bytes, count }
+        TextFront { bytes, count }
     }
 
     /// These bytes.
@@ -39,7 +39,7 @@ pub struct Refused {
     /// The server, by its place in the output's list.
     pub server: u16,
     /// The first bytes of the chunk's tag.
-    pub tag: TagFront,
+    pub tag: TextFront,
     /// The bytes of its entries.
     pub size: u64,
     /// How often it was lost, where 66 stands for every greater count.
@@ -51,7 +51,7 @@ pub struct Refused {
 /// A chunk that was lost before, in a session with a server that is known to work.
 #[derive(Clone, Copy)]
 pub(crate) struct Suspect {
-    tag: TagFront,
+    tag: TextFront,
     size: u64,
     losses: u8,
 }
@@ -60,7 +60,7 @@ impl Suspect {
     /// A chunk that was lost so often before.
     pub(crate) fn of(chunk: &Carried, losses: u8) -> Suspect {
         Suspect {
-            tag: TagFront::of(chunk.tag()),
+            tag: TextFront::of(chunk.tag()),
             size: chunk.body().size(),
             losses,
         }

@@ -193,6 +193,11 @@ impl<A: Tally, S: Tally> SharedOutput<A, S> {
         self.lock.lock(rt).release();
     }
 
+    /// A server could not be had for a chunk. If that was lost before, it counts as lost there too.
+    pub(crate) fn miss<R: Wait>(&self, rt: &R, chunk: u64, server: u16) {
+        self.lock.lock(rt).miss(chunk, server);
+    }
+
     /// A server acknowledged the chunk: its entries are settled, and answered is how many they are.
     /// A chunk that no worker has from this output counts 0, and no chunk more than its entries.
     pub fn settle<R: Wait>(

@@ -1,7 +1,7 @@
 //! A worker: it takes chunks from its output, sends them to a server, and settles what the server
 //! acknowledged.
 
-ghost use Rattle.std.specs.Prelude.{◌≡◌, ◌≤◌, ◌+◌, [], Some, None, false, length, IfOk, IfSome};
+ghost use Rattle.std.specs.Prelude.{◌≡◌, ◌≤◌, ◌+◌, ◌⊎◌, [], Some, None, false, length, IfOk, IfSome};
 ghost use Rattle.std.specs.Arc.{arc_value};
 ghost use Rattle.fwd_handshake.specs.Draws.{hex_drawn};
 ghost use Rattle.fwd_session.specs.Live.{live_acked, session_begins};
@@ -26,6 +26,7 @@ ghost use Rattle.fwd_workers.specs.Working.{
   setup_by,
 };
 
+use crate::denial::denial_in;
 use crate::doubts::Doubts;
 use crate::ending::{EndReason, NoSession};
 use crate::gating::place;
@@ -41,11 +42,12 @@ use crate::upstream::{IdleUpstream, Upstream, UpstreamWithRoom, WorkerState};
 use crate::upstream_turn::{allow_close, ended, free_upstream, serve, serve_free, to_end};
 use fwd_base::Bytes;
 use fwd_chunks::{Carried, FlushKind};
-use fwd_core::{AckTerms, OwnedSalt};
+use fwd_core::{AckTerms, Leaving, OwnedSalt};
 use fwd_handshake::{Login, draw_salt};
 use fwd_session::{LoadFailed, Session};
 use rand_chacha::ChaCha20Rng;
 use std::alloc::{AllocError, Global};
+use std::mem;
 use std::sync::{Arc, Wait};
 
 /// How many chunks that were lost a worker passes by at the most, in search of one that was not.
@@ -168,6 +170,9 @@ impl Worker {
 
     /// The gate is told what the turn came to.
     fn tell<G: Gate, R: Wait>(&mut self, rt: &R, gate: &mut G) {
+        if let Some(denial) = self.doubts.denial.take() {
+            gate.hear_denial(rt, self.number, denial);
+        }
         if let Some(news) = self.news.take() {
             gate.hear(rt, self.number, news);
         }
@@ -223,11 +228,7 @@ impl Worker {
         let Some(picked) = self.next_chunk(context, seat, outlook.is_doubted) else {
             return WorkerState::Idle;
         };
-        let server = if picked.was_lost() {
-            outlook.server_for_lost(server)
-        } else {
-            server
-        };
+        let server = outlook.server_with(&picked, server);
         let chunk = self.note(picked);
         match self.meet(context, outside.hub, server) {
             Ok(free) => {
@@ -293,7 +294,11 @@ impl Worker {
             return None;
         }
         let picked = self.next_chunk(context, seat, true)?;
+        let goes_elsewhere = picked.away_from(server).is_some();
         give_back(context, seat, unused(self.alloc, picked));
+        if goes_elsewhere {
+            return None;
+        }
         self.doubts.ask = None;
         Some(server)
     }
@@ -405,7 +410,12 @@ impl Worker {
         ensures chunk { result ≡ picked.chunk }
         ensures kept { self.new ≡ record self.old { doubts = self.new.doubts } }
     {
-        let Picked { chunk, losses } = picked;
+        let Picked {
+            chunk,
+            losses,
+            lost_at: _,
+            elsewhere: _,
+        } = picked;
         self.doubts.losses = losses;
         chunk
     }
@@ -477,11 +487,22 @@ impl Worker {
         match free.upstream.ending {
             None => WorkerState::Standing(free),
             Some(ending) => {
-                self.news = ending.news(free.upstream.session.server(), 0);
+                self.tell_end(ending, free.upstream.session.server());
                 end_free(context, seat, free, None);
                 WorkerState::Idle
             }
         }
+    }
+
+    /// A session with a server ended without a chunk, which is told, and what the server said why,
+    /// where it did not let the relay in.
+    fn tell_end(&mut self, ending: EndReason, server: u16)
+        ensures told { self.new.news ≡ news_of ending server 0 }
+        ensures kept { self.new
+            ≡ record self.old { news = self.new.news; doubts = self.new.doubts } }
+    {
+        self.news = ending.news(server, 0);
+        self.doubts.denial = denial_in(ending, server, &self.room);
     }
 
     /// Claims a chunk for the session that was sought, once that is ready, and takes it, whatever
@@ -498,12 +519,15 @@ impl Worker {
         ensures taken { free.upstream.ending ≡ None → HasTakenFirst result self.new.news
             free.upstream.session context.entry.now.now (L.calls free.upstream.link) }
     {
-        if context.out.counts(context.rt).held == 0 {
+        let leaves = mem::replace(&mut self.doubts.leaves, false);
+        if leaves || context.out.counts(context.rt).held == 0 {
             return WorkerState::Standing(free);
         }
         let free = serve_free(context.rt, self.alloc, &mut self.room, free, context.now);
         if let Some(ending) = free.upstream.ending {
-            self.news = ending.news(free.upstream.session.server(), 0);
+            let server = free.upstream.session.server();
+            self.miss(context, server);
+            self.tell_end(ending, server);
             end_free(context, seat, free, None);
             return WorkerState::Seeking;
         }
@@ -517,9 +541,42 @@ impl Worker {
         match self.next_chunk(context, seat, is_doubted) {
             Some(picked) => {
                 context.out.release(context.rt);
-                WorkerState::Took(free, self.note(picked))
+                self.keep_or_leave(context, seat, free, picked)
             }
             None => WorkerState::Sought(free),
+        }
+    }
+
+    /// Takes a chunk for the session that was sought, which is ready. A chunk that was lost there
+    /// and is to go elsewhere goes back, and the worker leaves the session for it in its next turn.
+    fn keep_or_leave<A: Tally, S: Tally, L: Link, R: Wait>(
+        &mut self,
+        context: &TurnContext<'_, A, S, R>,
+        seat: &mut S::Seat,
+        free: IdleUpstream<L>,
+        picked: Picked,
+    ) -> WorkerState<L>
+        ensures same { seat.new ≡ seat.old }
+        ensures either { (result ≡ WorkerState.Sought free)
+            ⊎ (result ≡ WorkerState.Took free picked.chunk) }
+        ensures quiet { self.new ≡ record self.old { doubts = self.new.doubts } }
+    {
+        if picked.away_from(free.upstream.session.server()).is_some() {
+            give_back(context, seat, unused(self.alloc, picked));
+            self.doubts.leaves = true;
+            return WorkerState::Sought(free);
+        }
+        self.doubts.errand = None;
+        WorkerState::Took(free, self.note(picked))
+    }
+
+    /// A session ended before it had a chunk. The chunk that it was sought for, if it was lost
+    /// elsewhere, counts as lost there too.
+    fn miss<A: Tally, S: Tally, R: Wait>(&mut self, context: &TurnContext<'_, A, S, R>, server: u16)
+        ensures { self.new ≡ record self.old { doubts = self.new.doubts } }
+    {
+        if let Some(chunk) = self.doubts.errand.take() {
+            context.out.miss(context.rt, chunk, server);
         }
     }
 
@@ -559,16 +616,45 @@ impl Worker {
             return WorkerState::Standing(free);
         };
         let to = outlook.way_of(&picked, own);
+        let away = picked.away_from(own);
         let chunk = self.note(picked);
         let Some(other) = self.go_over(context, seat, outside, to) else {
-            return WorkerState::Took(free, chunk);
+            return self.stay(context, seat, free, chunk, away);
         };
         if other.upstream.session.is_ready() {
             end_free(context, seat, free, None);
             return WorkerState::Took(other, chunk);
         }
+        self.doubts.errand = away.map(|_| chunk.number());
         end_free(context, seat, free, Some(chunk));
         WorkerState::Sought(other)
+    }
+
+    /// No session could be had in place of the one that stands. A chunk that was lost here counts
+    /// as lost there too, and goes back: it may go to a third server. Any other is taken for the
+    /// session that stands.
+    fn stay<A: Tally, S: Tally, L: Link, R: Wait>(
+        &self,
+        context: &TurnContext<'_, A, S, R>,
+        seat: &mut S::Seat,
+        free: IdleUpstream<L>,
+        chunk: Carried,
+        away: Option<u16>,
+    ) -> WorkerState<L>
+        ensures same { seat.new ≡ seat.old }
+        ensures stays { (result ≡ WorkerState.Standing free) ⊎ (result ≡ WorkerState.Took free chunk) }
+    {
+        let Some(server) = away else {
+            return WorkerState::Took(free, chunk);
+        };
+        context.out.miss(context.rt, chunk.number(), server);
+        let leaving = Leaving {
+            taken: Some(chunk),
+            loaded: Vec::new(self.alloc),
+            server: None,
+        };
+        give_back(context, seat, leaving);
+        WorkerState::Standing(free)
     }
 
     /// Loads the chunk that was taken, once the session is ready; until then the session is served.
@@ -664,7 +750,7 @@ impl Worker {
         match free.upstream.ending {
             None => WorkerState::Took(free, chunk),
             Some(ending) => {
-                self.news = ending.news(free.upstream.session.server(), 0);
+                self.tell_end(ending, free.upstream.session.server());
                 end_free(context, seat, free, Some(chunk));
                 WorkerState::Idle
             }

@@ -71,7 +71,7 @@ struct Call {
 /// Calls: with settings that are not there, that are refused, and of an address that no machine
 /// has, some of them checked too; a run that ends behind its turns; words that ask for no run; and
 /// outputs that cannot be flushed, or written.
-static CALLS: [Call; 10] = [
+static CALLS: [Call; 14] = [
     Call {
         words: &["run", "missing.toml", "1"],
         manner: Manner::Gives,
@@ -102,6 +102,22 @@ static CALLS: [Call; 10] = [
     },
     Call {
         words: &["run"],
+        manner: Manner::Gives,
+    },
+    Call {
+        words: &["version"],
+        manner: Manner::IsFull,
+    },
+    Call {
+        words: &["help"],
+        manner: Manner::Gives,
+    },
+    Call {
+        words: &["--help"],
+        manner: Manner::Keeps,
+    },
+    Call {
+        words: &["help", "run"],
         manner: Manner::Gives,
     },
     Call {

@@ -7,12 +7,12 @@ use fwd_msgpack::ScanFault;
 use fwd_program::Journal;
 use fwd_session::SessionFault;
 use fwd_source::SourceFault;
-use fwd_workers::{AdmitRefusal, LinkFault, LossReason, TagFront};
+use fwd_workers::{AdmitRefusal, LinkFault, LossReason, TextFront};
 use std::io;
 use std::net::{Ipv4Addr, Ipv6Addr, SocketAddr};
 
 /// Why sources are closed.
-static ENDS: [CloseReason; 16] = [
+static ENDS: [CloseReason; 17] = [
     CloseReason::Fault(SourceFault::Scan(ScanFault::Reserved)),
     CloseReason::Fault(SourceFault::Scan(ScanFault::TooDeep)),
     CloseReason::Fault(SourceFault::Scan(ScanFault::TooLong)),
@@ -26,14 +26,22 @@ static ENDS: [CloseReason; 16] = [
     CloseReason::Fault(SourceFault::Closed),
     CloseReason::Refused(0, AdmitRefusal::NotNow),
     CloseReason::Refused(65_534, AdmitRefusal::Full),
+    CloseReason::TooLarge {
+        output: 65_534,
+        bytes: 67_108_864,
+        limit: 1_048_576,
+    },
     CloseReason::Refused(3, AdmitRefusal::NumbersSpent),
     CloseReason::NoLogin,
     CloseReason::Idle,
 ];
 
 /// Why servers are lost.
-static LOSSES: [LossReason; 14] = [
+static LOSSES: [LossReason; 17] = [
     LossReason::Link(LinkFault::Connect),
+    LossReason::Link(LinkFault::Refused),
+    LossReason::Link(LinkFault::Unanswered),
+    LossReason::Link(LinkFault::Unreachable),
     LossReason::Link(LinkFault::Read),
     LossReason::Link(LinkFault::Write),
     LossReason::Link(LinkFault::Descriptors),
@@ -48,6 +56,12 @@ static LOSSES: [LossReason; 14] = [
     LossReason::Memory,
     LossReason::Link(LinkFault::Memory),
 ];
+
+/// Tags of requests that no output takes.
+static TAGS: [&[u8]; 2] = [b"app.\n", b"app.\"web\""];
+
+/// Why servers do not let the relay in, as they say.
+static REASONS: [&[u8]; 3] = [b"shared_key mismatch", b"no \"\\\" here", b"a line\n"];
 
 /// What else is told.
 static OTHERS: [JournalEvent; 10] = [
@@ -105,15 +119,27 @@ pub fn say_each(rt: &impl Print) {
     for why in &ENDS {
         teller.tell(JournalEvent::SourceClosed { peer, why: *why });
     }
-    let tag = TagFront::of(b"app.\n");
-    teller.tell(JournalEvent::Unrouted { peer, tag });
+    for tag in &TAGS {
+        let tag = TextFront::of(tag);
+        teller.tell(JournalEvent::Unrouted { peer, tag });
+    }
     for why in &LOSSES {
         teller.tell(JournalEvent::ServerLost {
             output: 65_534,
             server,
             why: *why,
+            said: None,
         });
     }
+    for said in &REASONS {
+        teller.tell(JournalEvent::ServerLost {
+            output: 0,
+            server,
+            why: LossReason::Fault(SessionFault::Denied),
+            said: Some(TextFront::of(said)),
+        });
+    }
+    teller.tell(JournalEvent::Silent { peer });
     let (output, worker) = (0, 15);
     teller.tell(JournalEvent::ServerBack { output, server });
     teller.tell(JournalEvent::ServerChanged {

@@ -79,9 +79,12 @@ impl Heard {
         self.lost = self.lost.saturating_add(1);
         self.first_lost = self.first_lost.or(Some((output, server)));
         match why {
-            LossReason::Link(LinkFault::Connect) => self.unreached = self
-                .unreached
-                .saturating_add(1),
+            LossReason::Link(
+                LinkFault::Connect
+                | LinkFault::Refused
+                | LinkFault::Unanswered
+                | LinkFault::Unreachable,
+            ) => self.unreached = self.unreached.saturating_add(1),
             LossReason::Fault(fault) => {
                 let _ = self.faults.push(fault);
             }
@@ -140,6 +143,7 @@ impl Observer for Heard {
                 output,
                 server,
                 why,
+                said: _,
             } => self.lose(output, server, why),
             JournalEvent::ServerBack { .. } => self.back = self.back.saturating_add(1),
             JournalEvent::ServerChanged { .. } => self.changed = self.changed.saturating_add(1),

@@ -63,6 +63,9 @@ fn fault_name(fault: LinkFault) -> &'static str {
         LinkFault::Write => "write",
         LinkFault::Descriptors => "descriptors",
         LinkFault::Memory => "memory",
+        LinkFault::Refused => "refused",
+        LinkFault::Unanswered => "unanswered",
+        LinkFault::Unreachable => "unreachable",
     }
 }
 

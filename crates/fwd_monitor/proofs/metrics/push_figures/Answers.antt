@@ -3,8 +3,7 @@ use Rattle.fwd_monitor.proofs.metrics.push_figures.Goals as goal
 
 pub returns : goal.returns
 returns c =
-    added _ _ _ _ _ (added _ _ _ _ _ (added _ _ _ _ _
-    (added _ _ _ _ _ c.in_ok-push_start.ensures c.in_ok-push_gauge.ensures)
-    c.in_ok-push_gauge-2.ensures)
-    c.in_ok-push_gauge-3.ensures)
-    (rw c.flag_value.ensures at c.in_ok-push_gauge-4.ensures)
+    added _ _ _ _ _ (added _ _ _ _ _
+    (added _ _ _ _ _ c.in_ok-push_build.ensures c.in_ok-push_known.ensures)
+    c.in_ok-push_counter.ensures)
+    c.in_ok-push_process.ensures

@@ -5,12 +5,17 @@ use Rattle.fwd_program.specs.Asked.{AsksRun}
 use Rattle.fwd_program.proofs.program.run_words.Goals as goal
 
 pub returns-in-Some-clause-other : goal.returns-in-Some-clause-other
-returns-in-Some-clause-other g c none no_stop =
+returns-in-Some-clause-other g c none no_stop no_show =
     let run = c.in-Some.run' in
     absurd (none run.path.now run.turns (subst (λ ws. AsksRun (words_behind (map string_bytes ws)) run.path.now run.turns) c.as_slice.ensures.value c.in-Some.ensures.asked))
 
 pub returns-in-Some-clause-stop : goal.returns-in-Some-clause-stop
 returns-in-Some-clause-stop g c none path seconds asks =
+    let run = c.in-Some.run' in
+    absurd (none run.path.now run.turns (subst (λ ws. AsksRun (words_behind (map string_bytes ws)) run.path.now run.turns) c.as_slice.ensures.value c.in-Some.ensures.asked))
+
+pub returns-in-Some-clause-shown : goal.returns-in-Some-clause-shown
+returns-in-Some-clause-shown g c none no_stop showing asks =
     let run = c.in-Some.run' in
     absurd (none run.path.now run.turns (subst (λ ws. AsksRun (words_behind (map string_bytes ws)) run.path.now run.turns) c.as_slice.ensures.value c.in-Some.ensures.asked))
 

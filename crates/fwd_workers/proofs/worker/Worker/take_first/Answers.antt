@@ -12,5 +12,5 @@ returns-in-Some-clause-taken g c none = (
       c.args.context.now.now (g.L.Link.calls c.args.free.upstream.link)
       (g.L.Link.calls c.serve_free-free.result.upstream.link) w)
       c.in-Some.is (c.serve_free-free.ensures.turn none),
-  c.news-self.ensures ∙ ap (λ n. news_of c.in-Some.ending n 0) c.server.ensures,
+  c.tell_end.ensures.told ∙ ap (λ n. news_of c.in-Some.ending n 0) c.server-server.ensures,
 )

@@ -7,7 +7,7 @@ use Rattle.fwd_workers.specs.declared.ending.EndReason.{EndReason}
 use Rattle.fwd_workers.specs.declared.upstream.WorkerState.TheVariants as stage
 use Rattle.fwd_workers.specs.Endings.{idle_ending, news_of}
 use Rattle.fwd_workers.specs.Working.{HasTakenNext, IsTended, setup_by}
-use Rattle.fwd_workers.proofs.Taking.{by-ending, goes-on}
+use Rattle.fwd_workers.proofs.Taking.{by-ending, either, goes-on}
 use Rattle.fwd_workers.proofs.worker.Worker.take_next.Goals as goal
 
 pub returns-then-is_some-clause-taken : goal.returns-then-is_some-clause-taken
@@ -70,6 +70,11 @@ returns-in_default-go_over-clause-taken g c none =
     (λ why. idle_ending why (is_done c.serve_free.result.upstream.session.handshake))
     (c.serve_free.ensures.turn none) c.allow_close-free.ensures.session
     c.allow_close-free.ensures.ending (sym c.is_some.ensures ∙ c.if-is_some.false) in
+    either (λ at. HasTakenNext at c.go_over.new.self.news c.args.free.upstream.session
+    c.args.context.now.now (g.H.Line.Link.calls c.args.free.upstream.link)
+    (setup_by (arc_value c.args.self.now.login) (hex_drawn 0 4 c.args.self.now.rng)
+    c.args.self.now.acks c.args.context.now.now))
+    c.stay.result _ _ c.stay.ensures.stays on
     (on.0, sym c.is_ready.ensures ∙ c.if-not-is_ready.false, inl on.1)
 
 pub returns-then-outlook-clause-taken : goal.returns-then-outlook-clause-taken

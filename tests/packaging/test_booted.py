@@ -1,0 +1,61 @@
+"""The package's unit under a systemd that was booted: a restart loses nothing, whatever has become of the settings."""
+
+import shutil
+import subprocess
+
+import pytest
+
+from booted import Booted
+from documents import TOP
+from forward import Source
+from next_hop import hold
+from relay import free_ports, until
+
+SETTINGS = "/etc/forward_relay/relay.toml"
+
+
+@pytest.fixture
+def booted(needed, tmp_path):
+    """A machine that was booted: what is in the folder `given` is in its /mnt."""
+    needed("systemd", shutil.which("systemd-sysusers"))
+    for name in ("layers", "given"):
+        (tmp_path / name).mkdir()
+    one = Booted(str(tmp_path / "layers"), str(tmp_path / "given"))
+    if not one.is_there:
+        one.end()
+        pytest.skip("missing: root who may mount, and boot systemd in namespaces of its own")
+    yield one
+    one.end()
+
+
+def journal(booted):
+    """What the service's journal has."""
+    return booted.run("journalctl", "--unit=forward_relay", "--output=cat", "--no-pager")
+
+
+@pytest.mark.minutes
+def test_restart(booted, program, next_hop, tmp_path):
+    """What a source sent that never asks is delivered before the relay ends, though the settings are refused by then."""
+    script = ["sh", "packaging/deb.sh", tmp_path / "given"]
+    subprocess.run(script, cwd=TOP, env={"PATH": "/usr/bin:/bin", "RELAY": program}, check=True, stdout=subprocess.PIPE)
+    booted.run("sh", "-c", "dpkg --no-triggers --install /mnt/*.deb")
+    hop, (port,) = next_hop(answer=hold), free_ports(1)
+    booted.run("sed", "-i", f"s/:24224/:{port}/; s/:24225/:{hop.port}/", SETTINGS)
+    booted.run("systemctl", "start", "forward_relay")
+    until(lambda: "listening: sources" in journal(booted), lambda: journal(booted))
+    assert booted.run("stat", "-c", "%U %a", "/run/forward_relay/relay.toml") == "_forward_relay 400\n"
+    with Source(port) as source:
+        source.send("app", [(1, {"n": 0})])
+        hop.await_entries(1)
+        for number in range(1, 6):
+            source.send("app", [(1, {"n": number})])
+        booted.run("sed", "-i", "s/^connections = 256/connections = 0/", SETTINGS)
+        booted.run("systemctl", "restart", "--no-block", "forward_relay")
+        until(lambda: "stopping: asked" in journal(booted), lambda: journal(booted))
+        assert hop.count() == 1
+        hop.release()
+        assert [record["n"] for _, _, record in hop.await_entries(6)] == list(range(6))
+    until(lambda: "relay.connections is refused" in journal(booted), lambda: journal(booted))
+    assert "stopped: all is delivered" in journal(booted)
+    until(lambda: booted.run("systemctl", "is-active", "forward_relay", may_fail=True) == "failed\n", "it does not end")
+    assert booted.run("ls", "/run").split().count("forward_relay") == 0
