@@ -1,13 +1,13 @@
 #!/usr/bin/env python3
 """Instructions that an entry takes in the relay, by thread and by function, counted by valgrind.
 
-    /usr/bin/python3 bench/instructions.py PROGRAM [MODE [ENTRIES]]
+    /usr/bin/python3 bench/instructions.py PROGRAM [MODE [ENTRIES [SIZE]]]
 
 It needs valgrind and cc. PROGRAM is a built forward_relay, as crates/forward_relay/out/forward_relay; MODE is packed,
-forward or message (packed), and ENTRIES how many are sent (200000), over ten connections, a hundred in a request (one, in
-Message mode), as in the rows of relay.py. What a run takes with a tenth of them is taken off, so that starting counts for
-nothing. The kernel's instructions are not counted, and valgrind runs one thread at a time, so that the counts hang little
-on the machine.
+forward or message (packed), ENTRIES how many are sent (200000), over ten connections, and SIZE how many of them are in
+a request (a hundred; one in Message mode), as in the rows of relay.py. What a run takes with a tenth of them is taken
+off, so that starting counts for nothing. The kernel's instructions are not counted, and valgrind runs one thread at a
+time, so that the counts hang little on the machine.
 
 The first thread is the one that reads sources. It prints the instructions an entry of all threads, of the first, and of
 the functions that take at least a hundredth of the first one's.
@@ -36,7 +36,7 @@ def build(folder, name):
     return str(folder / name)
 
 
-def run(program, folder, mode, entries):
+def run(program, folder, mode, entries, size):
     """One run: its counts, a Counter by function for each thread."""
     sink = subprocess.Popen([build(folder, "sink"), "0"], stdout=subprocess.PIPE, text=True)
     port = int(sink.stdout.readline().split()[1])
@@ -45,7 +45,6 @@ def run(program, folder, mode, entries):
     one = Relay(program, folder, [{"servers": [port], "chunk_limit": 8_000_000}], under=under)
     one.environment["FORWARD_RELAY_LOG"] = ""
     one.start()
-    size = 1 if mode == "message" else 100
     words = ["--mode", mode, "--connections", CONNECTIONS, "--entries", size, "--total", entries, "--timeout", 1000]
     subprocess.run(
         [build(folder, "generator"), *map(str, words), "127.0.0.1", str(one.port)],
@@ -88,9 +87,10 @@ def main():
     program = sys.argv[1]
     mode = sys.argv[2] if len(sys.argv) > 2 else "packed"
     entries = int(sys.argv[3]) if len(sys.argv) > 3 else 200_000
+    size = int(sys.argv[4]) if len(sys.argv) > 4 else 1 if mode == "message" else 100
     with tempfile.TemporaryDirectory() as name:
         folder = pathlib.Path(name)
-        few, many = (run(program, folder, mode, count) for count in (entries // 10, entries))
+        few, many = (run(program, folder, mode, count, size) for count in (entries // 10, entries))
     more = entries - entries // 10
     for number in many:
         many[number].subtract(few.get(number, {}))

@@ -37,7 +37,8 @@ says what the contracts promise together, and what no contract says. A line has 
 - in square brackets the files of definitions that its clauses name: `specs/FILE.antt` of its crate,
   or of the crate before the slash;
 - after ✗ the must-fail edits of its contract or body: wrong versions that the prover has to
-  refuse, each `must-fail/NAME.edit` of its crate.
+  refuse, each `NAME.edit` below `must-fail` of its crate, or below `must-fail-minutes`, whose edits
+  the gate leaves out.
 
 The crates stand in the order of `crates.txt`.
 """
@@ -110,7 +111,7 @@ class Edit(NamedTuple):
 def edits_of(crate):
     """The must-fail edits of a crate."""
     edits = []
-    for path in sorted((CRATES / crate / "must-fail").glob("*.edit")):
+    for path in sorted((CRATES / crate).glob("must-fail*/*.edit"), key=lambda path: path.name):
         file, changes = None, []
         for line in path.read_text().splitlines():
             key, _, rest = line.partition(": ")
@@ -129,7 +130,7 @@ def place_of(edit, crate, sources):
         text = (CRATES / crate / file).read_text()
         if text.count(old) != 1:
             raise SystemExit(
-                f"{crate}/must-fail/{edit.name}.edit: its old text stands {text.count(old)} times in {file}"
+                f"{crate}: {edit.name}.edit: its old text stands {text.count(old)} times in {file}"
             )
         place = text.index(old)
         source = sources.get(file)
@@ -196,7 +197,7 @@ def index(names):
     libraries = {name: Crate(name) for name in names}
     text, private, definitions = HEAD, "", ""
     for name, library in libraries.items():
-        sources = {f"src/{source.module}.rt": source for source in library.sources}
+        sources = {source.file: source for source in library.sources}
         lines = {id(f): (s, f, []) for s, f in library.public if f.has_promise()}
         others, defined = {}, {}
         for edit in edits_of(name):

@@ -59,8 +59,9 @@ class Function(NamedTuple):
 class Source:
     """A file of a crate."""
 
-    def __init__(self, path):
+    def __init__(self, path, folder):
         self.module = path.stem
+        self.file = path.relative_to(folder).as_posix()
         self.text = path.read_text()
         self.code = NO_CODE.sub(lambda found: ("" if found[0][0] == "/" else "0").ljust(len(found[0])), self.text)
         self.blocks = [
@@ -119,6 +120,8 @@ class Source:
         """The module that defines a type."""
         if re.search(rf"\b(?:struct|enum|trait|union)\s+{owner}\b", self.code):
             return self.module
+        if re.search(rf"\buse super::(?:\{{[^}}]*)?\b{owner}\b", self.code):
+            return self.file.split("/")[-2]
         found = re.search(rf"\buse crate::(\w+)::(?:\{{[^}}]*)?\b{owner}\b", self.code)
         return found[1] if found else self.module
 
@@ -178,7 +181,7 @@ class Crate:
     def __init__(self, name):
         self.name = name
         self.folder = CRATES / name
-        self.sources = [Source(path) for path in sorted((self.folder / "src").rglob("*.rt"))]
+        self.sources = [Source(path, self.folder) for path in sorted((self.folder / "src").rglob("*.rt"))]
 
     @functools.cached_property
     def root(self):

@@ -8,7 +8,14 @@ from relay import TOP
 TEXT = r'(?:"(?:[ !#-\[\]-~]|\\["\\])*"|(?:[0-9a-f]{2})+)'  # bytes of a peer in the journal
 
 # What stands for a part of a line of the journal.
-PARTS = {"ADDRESS": r"[^ ]+:\d+", "NAME": r"[A-Z][A-Za-z]+", "FILE": r".+", "REASON": r".+", "TAG": r".*", "TEXT": TEXT}
+PARTS = {
+    "ADDRESS": r"(?:[^ ]+:\d+|unix:/.+)",
+    "NAME": r"[A-Z][A-Za-z]+",
+    "FILE": r".+",
+    "REASON": r".+",
+    "TAG": r".*",
+    "TEXT": TEXT,
+}
 
 
 def text_of(name):

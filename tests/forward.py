@@ -77,8 +77,13 @@ class Stream(Values):
 
 
 def connect(port, timeout=30, wrap=None):
-    """A connection to a port of this machine, over what `wrap` makes of it, as TLS."""
-    link = socket.create_connection((HOST, port), timeout=timeout)
+    """A connection to a port of this machine, or to the Unix socket of a path, over what `wrap` makes of it, as TLS."""
+    if isinstance(port, int):
+        link = socket.create_connection((HOST, port), timeout=timeout)
+    else:
+        link = socket.socket(socket.AF_UNIX)
+        link.settimeout(timeout)
+        link.connect(str(port))
     return Stream(wrap(link) if wrap else link, timeout)
 
 

@@ -85,7 +85,8 @@ class Values:
 
     def __init__(self, link, timeout=30):
         self.link, self.values = link, msgpack.Unpacker(strict_map_key=False, max_buffer_size=0)
-        link.setsockopt(socket.IPPROTO_TCP, socket.TCP_NODELAY, 1)
+        if link.family != socket.AF_UNIX:
+            link.setsockopt(socket.IPPROTO_TCP, socket.TCP_NODELAY, 1)
         link.settimeout(timeout)
 
     def send(self, value):

@@ -20,7 +20,7 @@ pytestmark = pytest.mark.quick
 TYPES = {
     "Acked": ("fwd_session/src/acked.rt", "number", "u64"),
     "Carried": ("fwd_chunks/src/carried.rt", "number", "u64"),
-    "Ticket": ("fwd_workers/src/ticket.rt", "output", "u16"),
+    "Ticket": ("fwd_output/src/ticket.rt", "output", "u16"),
 }
 KEPT = ("Carried", "Ticket")  # those that are never let go
 NEVER = "fn never<T>() -> T {\n    never()\n}\n"
@@ -96,7 +96,7 @@ def compiled(tmp_path, needed):
     def below(crate):
         return {crate}.union(*(below(dep) for dep in listing[crate] if dep in listing))
 
-    crates = sorted(below("fwd_workers"))
+    crates = sorted(below("fwd_output"))
     for crate in crates:
         for part in ("src", "specs", "proofs"):
             if (TOP / "crates" / crate / part).is_dir():

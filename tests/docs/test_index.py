@@ -30,7 +30,7 @@ def edits_in_index():
 
 def edits():
     """The must-fail edits of the libraries, by crate and name."""
-    return {(path.parent.parent.name, path.stem) for path in TOP.glob("crates/fwd_*/must-fail/*.edit")}
+    return {(path.parent.parent.name, path.stem) for path in TOP.glob("crates/fwd_*/must-fail*/*.edit")}
 
 
 def test_index():
@@ -52,7 +52,7 @@ def test_edits():
 def test_calls():
     """What PROVED names as a function of a type is one, or a trait's, and its laws and files are there."""
     text = text_of("docs/PROVED.md")
-    sources = "".join(path.read_text() for path in TOP.glob("crates/fwd_*/src/*.rt"))
+    sources = "".join(path.read_text() for path in TOP.glob("crates/fwd_*/src/**/*.rt"))
     names = set(spans(text))
     calls = {name for name in names if "::" in name}
     assert len(calls) > 20

@@ -132,7 +132,7 @@ def test_ranges():
 
 def kinds_in_code():
     """What the lines of the journal begin with."""
-    text = "".join(text_of(f"crates/fwd_program/src/{name}.rt") for name in ("journal_line", "journal"))
+    text = "".join(text_of(f"crates/fwd_journal/src/{name}.rt") for name in ("journal_line", "journal"))
     return set(re.findall(r'LineKind::\w+ => "([a-z ]+)"', text)) | set(re.findall(r'"([a-z ]+): [^"]*\{', text))
 
 
@@ -160,8 +160,8 @@ def numbers_in_code():
     for crate in FAULTS:
         text = text_of(f"crates/{crate}/src/fault.rt")
         pairs |= {(int(number), name) for name, number in re.findall(r"^    (\w+) = (\d+),", text, re.MULTILINE)}
-    for name in ("link", "refusal"):
-        text = text_of(f"crates/fwd_workers/src/{name}.rt")
+    for path in ("fwd_environment/src/link", "fwd_book/src/refusal"):
+        text = text_of(f"crates/{path}.rt")
         pairs |= {(int(number), name) for name, number in re.findall(r"^    (\w+) = (\d+),", text, re.MULTILINE)}
     return pairs - {(0, "Memory")}
 
@@ -173,7 +173,7 @@ def test_refusals():
     told |= {(int(number), name) for number, name in re.findall(r"\b(\d+) ([A-Z]\w+)", text)}
     assert numbers_in_code() <= told
     used = "".join(
-        text_of(f"crates/fwd_{name}/src/{file}.rt") for name, file in [("script", "text"), ("program", "journal_line")]
+        text_of(f"crates/fwd_{name}/src/{file}.rt") for name, file in [("script", "text"), ("journal", "journal_line")]
     )
     printed = set(re.findall(r'=> "([A-Z]\w+)"', used))
     whole = text_of("docs/FORMATS.md")
@@ -183,7 +183,7 @@ def test_refusals():
 def test_names_that_end_a_source_or_a_session():
     """OPERATING says what to do about each name that a line of the journal can have."""
     text = text_of("docs/OPERATING.md")
-    code = text_of("crates/fwd_script/src/text.rt") + text_of("crates/fwd_program/src/journal_line.rt")
+    code = text_of("crates/fwd_script/src/text.rt") + text_of("crates/fwd_journal/src/journal_line.rt")
     heads = {
         "### Sources that are closed": "source_fault_name scan_fault_name input_fault_name close_reason_name admit_refusal_name",
         "### A server that does not answer": "session_fault_name loss_name",

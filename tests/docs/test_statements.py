@@ -100,7 +100,7 @@ def test_times():
 
 def test_edits():
     """The documents count the must-fail edits that there are, and say how long one takes in one place alone."""
-    count = len(list(TOP.glob("crates/fwd_*/must-fail/*.edit")))
+    count = len(list(TOP.glob("crates/fwd_*/must-fail*/*.edit")))
     told = {name: re.findall(r"(\d+) (?:\*|`)*must-fail edits", text_of(name)) for name in DOCUMENTS}
     assert {name: set(numbers) for name, numbers in told.items() if numbers} == {
         "docs/DECISIONS.md": {str(count)},

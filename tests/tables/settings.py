@@ -111,6 +111,38 @@ for frame, key in [("relay", "listen"), ("relay", "monitor"), ("unreached", "add
         "out of range",
     )
 
+# ---- paths of Unix sockets, whose lengths count bytes
+values(
+    "relay", "listen", [f'"unix:{p}"' for p in ["/a", "/" + "a" * 106, "/" + "\u00e9" * 53, "/run/a b:1", "//"]], "good"
+)
+values(
+    "relay",
+    "listen",
+    [
+        f'"{a}"'
+        for a in [
+            "unix:",
+            "unix:/",
+            "unix:a",
+            "unix:./a",
+            "unix: /a",
+            "unix::/a",
+            " unix:/a",
+            "UNIX:/a",
+            "unix",
+            "unix/a",
+            "tcp:/a",
+            "/a",
+            "unix:///a\\u0000",
+            "unix:/" + "a" * 107,
+            "unix:/a" + "\u00e9" * 53,
+        ]
+    ],
+    "out of range",
+)
+for frame, key in [("relay", "monitor"), ("unreached", "address")]:
+    value(frame, key, '"unix:/a"', "out of range")
+
 # ---- texts, whose lengths count bytes
 for frame, key, empty in [
     ("relay", "hostname", "out of range"),
@@ -484,6 +516,7 @@ sets(
     SET_OUTPUT,
     OUTPUT_C,
 )
+sets('[relay]\nlisten = "unix:/run/a b:1"\n' + MATCH + SERVER, RELAY | {"listen": "unix:/run/a b:1"}, OUTPUT | FIRST)
 # a long wait lengthens the longest
 for wait, longest in [(59_999, 60_000), (60_001, 60_001)]:
     sets(

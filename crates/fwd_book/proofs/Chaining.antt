@@ -3,21 +3,21 @@ use Rattle.std.proofs.Common.{◌≡◌, ℕ, suc, Bool, true, false, cond, Opti
 use Rattle.std.specs.Prelude.{not, ◌&&◌, ◌==◌, is_some, filter, option_map, option_and_then, unwrap_or, slice_get, IsSome}
 use Rattle.std.specs.List.{list_any}
 use Rattle.std.proofs.lemmas.Bool.{eqb-true, eq-eqb}
-use Rattle.fwd_book.specs.declared.connection_index.Link.{Link}
+use Rattle.fwd_book.specs.declared.connection_index.RequestLinks.{RequestLinks}
 use Rattle.fwd_book.specs.declared.connection_index.Ends.{Ends}
-use Rattle.fwd_book.specs.declared.connection_index.Kept.{Kept}
+use Rattle.fwd_book.specs.declared.connection_index.LinkedRequest.{LinkedRequest}
 use Rattle.fwd_book.specs.History.{is_of}
 use Rattle.fwd_book.specs.Links.{link_of, ends_at, is_the, last_of, link_in, with_later, with_earlier, leads_to, follows_on, with_last, AreOnce, order_with, order_without, AreChained}
 use Rattle.fwd_book.proofs.Facts.{apart, none_some}
 use Rattle.fwd_book.proofs.Linking.{among_at, later_at, last_none, earlier_other, later_other, appended, once_with, first_with, last_with, relinked, unlinked, once_without, first_without, last_without, all_stay, none_any, not_in}
 
 abbrev Links : Type 0
-Links = ℕ → ℕ → Option Link
+Links = ℕ → ℕ → Option RequestLinks
 
 -- ---- what is kept, and its links
 
 -- a link is written where what is kept is
-later-of : (conn : ℕ) (later : Option ℕ) (k : Option Kept)
+later-of : (conn : ℕ) (later : Option ℕ) (k : Option LinkedRequest)
     → link_of conn (option_map (leads_to later) k) ≡ option_map (with_later later) (link_of conn k)
 later-of conn later None = refl
 later-of conn later (Some k) = by (is_of conn k.request)
@@ -26,7 +26,7 @@ later-of conn later (Some k) = by (is_of conn k.request)
     by true = refl
     by false = refl
 
-earlier-of : (conn : ℕ) (earlier : Option ℕ) (k : Option Kept)
+earlier-of : (conn : ℕ) (earlier : Option ℕ) (k : Option LinkedRequest)
     → link_of conn (option_map (follows_on earlier) k) ≡ option_map (with_earlier earlier) (link_of conn k)
 earlier-of conn earlier None = refl
 earlier-of conn earlier (Some k) = by (is_of conn k.request)
@@ -36,13 +36,13 @@ earlier-of conn earlier (Some k) = by (is_of conn k.request)
     by false = refl
 
 -- one of two is read
-either-of : (conn : ℕ) (b : Bool) (x y : Option Kept)
+either-of : (conn : ℕ) (b : Bool) (x y : Option LinkedRequest)
     → link_of conn (cond b x y) ≡ cond b (link_of conn x) (link_of conn y)
 either-of conn true x y = refl
 either-of conn false x y = refl
 
 -- a request is of one connection alone
-one-owner : (conn c : ℕ) (k : Option Kept) (link : Link) → (conn == c) ≡ false
+one-owner : (conn c : ℕ) (k : Option LinkedRequest) (link : RequestLinks) → (conn == c) ≡ false
     → link_of conn k ≡ Some link → link_of c k ≡ None
 one-owner conn c None link other there = refl
 one-owner conn c (Some k) link other there = by (is_of conn k.request) refl there
@@ -53,16 +53,16 @@ one-owner conn c (Some k) link other there = by (is_of conn k.request) refl ther
     by true is f = ap (λ b. cond b (Some k.link) None) (ap (λ n. n == c) (eqb-true k.request.origin.conn conn is) ∙ other)
 
 -- what is written where the connection has its slots changes none of another connection
-written-apart : (conn c m : ℕ) (k : Option Kept) (slot : Option ℕ) (f : Link → Link)
+written-apart : (conn c m : ℕ) (k : Option LinkedRequest) (slot : Option ℕ) (f : RequestLinks → RequestLinks)
     → (conn == c) ≡ false → (link_of conn k ≡ None → is_the slot m ≡ false)
     → cond (is_the slot m) (option_map f (link_of c k)) (link_of c k) ≡ link_of c k
 written-apart conn c m k slot f other untouched = by (link_of conn k) refl
   where
-    both : (b : Bool) (l : Option Link) → l ≡ None → cond b (option_map f l) l ≡ l
+    both : (b : Bool) (l : Option RequestLinks) → l ≡ None → cond b (option_map f l) l ≡ l
     both false l e = refl
     both true l e = ap (option_map f) e ∙ sym e
 
-    by : (x : Option Link) → link_of conn k ≡ x
+    by : (x : Option RequestLinks) → link_of conn k ≡ x
         → cond (is_the slot m) (option_map f (link_of c k)) (link_of c k) ≡ link_of c k
     by None e = ap (λ b. cond b (option_map f (link_of c k)) (link_of c k)) (untouched e)
     by (Some link) e = both (is_the slot m) (link_of c k) (one-owner conn c k link other e)
@@ -128,7 +128,7 @@ abbrev own_without : ℕ → ℕ → (ℕ → List ℕ) → ℕ → List ℕ
 own_without conn slot order c = cond (conn == c) (filter (λ r. not (slot == r)) (order c)) (order c)
 
 own_chained_without : (links new_links : Links) (ends new_ends : List (ℕ × Ends))
-    (order : ℕ → List ℕ) (conn slot : ℕ) (link : Link)
+    (order : ℕ → List ℕ) (conn slot : ℕ) (link : RequestLinks)
     → links conn slot ≡ Some link
     → ((c r : ℕ) → new_links c r
     ≡ cond ((conn == c) && is_the link.later r)
@@ -211,7 +211,7 @@ chained_same links ends order slot none chained =
 
 -- a request that is there is its connection's, which has ends
 pub has_ends : (links : Links) (ends : List (ℕ × Ends)) (order : ℕ → List ℕ) (conn slot : ℕ)
-    (link : Link)
+    (link : RequestLinks)
     → links conn slot ≡ Some link → AreChained links ends order
     → IsSome (ends_at ends conn)
 has_ends links ends order conn slot link there chained = by (ends_at ends conn) refl
@@ -226,25 +226,25 @@ has_ends links ends order conn slot link there chained = by (ends_at ends conn) 
 
 -- ---- what is kept is written
 
-module _ (kept new : ℕ → Option Kept) (ends new_ends : List (ℕ × Ends)) (order : ℕ → List ℕ)
+module _ (kept new : ℕ → Option LinkedRequest) (ends new_ends : List (ℕ × Ends)) (order : ℕ → List ℕ)
     (chained : AreChained (λ c k. link_of c (kept k)) ends order) where
   -- a slot that has no request of the connection is neither the last nor beside another
   no_last : (conn m : ℕ) → link_of conn (kept m) ≡ None → is_the (last_of None (order conn)) m ≡ false
   no_last conn m none = last_none (order conn) m (not_in None (order conn) m (sym (chained.linked conn m) ∙ none))
 
-  no_earlier : (conn slot m : ℕ) (link : Link) → link_of conn (kept slot) ≡ Some link
+  no_earlier : (conn slot m : ℕ) (link : RequestLinks) → link_of conn (kept slot) ≡ Some link
       → link_of conn (kept m) ≡ None → is_the link.earlier m ≡ false
   no_earlier conn slot m link there none =
       earlier_other None (order conn) slot link m (sym (chained.linked conn slot) ∙ there)
       (not_in None (order conn) m (sym (chained.linked conn m) ∙ none)) refl
 
-  no_later : (conn slot m : ℕ) (link : Link) → link_of conn (kept slot) ≡ Some link
+  no_later : (conn slot m : ℕ) (link : RequestLinks) → link_of conn (kept slot) ≡ Some link
       → link_of conn (kept m) ≡ None → is_the link.later m ≡ false
   no_later conn slot m link there none =
       later_other None (order conn) slot link m (sym (chained.linked conn slot) ∙ there)
       (not_in None (order conn) m (sym (chained.linked conn m) ∙ none))
 
-  pub kept_with : (conn slot : ℕ) (own : Kept) → is_of conn own.request ≡ true → kept slot ≡ None
+  pub kept_with : (conn slot : ℕ) (own : LinkedRequest) → is_of conn own.request ≡ true → kept slot ≡ None
       → own.link.earlier ≡ option_map (λ e. e.last) (ends_at ends conn) → own.link.later ≡ None
       → ((k : ℕ) → new k ≡ cond (slot == k) (Some own)
       (cond (is_the own.link.earlier k) (option_map (leads_to (Some slot)) (kept k)) (kept k)))
@@ -291,7 +291,7 @@ module _ (kept new : ℕ → Option Kept) (ends new_ends : List (ℕ × Ends)) (
           ∙ written-apart conn c k (kept k) own.link.earlier (with_later (Some slot)) is (λ none. ap (λ o. is_the o k) (is_earlier ∙ chained.last conn) ∙ no_last conn k none))
           ∙ apart_from c k is (slot == k) refl
 
-  pub kept_without : (slot : ℕ) (own : Kept) → kept slot ≡ Some own
+  pub kept_without : (slot : ℕ) (own : LinkedRequest) → kept slot ≡ Some own
       → ((k : ℕ) → new k
       ≡ cond (is_the own.link.later k)
       (option_map (follows_on own.link.earlier) (cond (is_the own.link.earlier k) (option_map (leads_to own.link.later) (cond (slot == k) None (kept k))) (cond (slot == k) None (kept k))))
@@ -319,10 +319,10 @@ module _ (kept new : ℕ → Option Kept) (ends new_ends : List (ℕ × Ends)) (
       alike c true is = refl
       alike c false is = not_own (λ d k. link_of d (kept k)) ends order c slot chained (elsewhere c is)
 
-      left : ℕ → Option Kept
+      left : ℕ → Option LinkedRequest
       left k = cond (slot == k) None (kept k)
 
-      led : ℕ → Option Kept
+      led : ℕ → Option LinkedRequest
       led k = cond (is_the own.link.earlier k) (option_map (leads_to own.link.later) (left k)) (left k)
 
       left_of : (c k : ℕ) → link_of c (left k) ≡ cond (slot == k) None (link_of c (kept k))
@@ -373,20 +373,20 @@ module _ (kept new : ℕ → Option Kept) (ends new_ends : List (ℕ × Ends)) (
       apart (sym (among_at (order conn) i slot slot at (not_in None (order conn) slot (sym (chained.linked conn slot) ∙ none))) ∙ eq-eqb slot slot refl)
 
   -- and it leads to what stands behind it
-  pub later_there : (conn i slot : ℕ) (k : Kept) → kept slot ≡ Some k → slice_get (order conn) i ≡ Some slot
+  pub later_there : (conn i slot : ℕ) (k : LinkedRequest) → kept slot ≡ Some k → slice_get (order conn) i ≡ Some slot
       → k.link.later ≡ slice_get (order conn) (suc i)
   later_there conn i slot k there at = by (is_of conn k.request) refl
     where
       by : (a : Bool) → is_of conn k.request ≡ a → k.link.later ≡ slice_get (order conn) (suc i)
       by true is =
-          sym (ap (λ b. option_and_then (λ (l : Link). l.later) (cond b (Some k.link) None)) is)
-          ∙ ap (λ x. option_and_then (λ (l : Link). l.later) (link_of conn x)) (sym there)
-          ∙ ap (option_and_then (λ (l : Link). l.later)) (chained.linked conn slot)
+          sym (ap (λ b. option_and_then (λ (l : RequestLinks). l.later) (cond b (Some k.link) None)) is)
+          ∙ ap (λ x. option_and_then (λ (l : RequestLinks). l.later) (link_of conn x)) (sym there)
+          ∙ ap (option_and_then (λ (l : RequestLinks). l.later)) (chained.linked conn slot)
           ∙ later_at None (order conn) i slot (chained.once conn) at
       by false is = absurd (own_there conn i slot at (ap (link_of conn) there ∙ ap (λ b. cond b (Some k.link) None) is))
 
   -- a request that is kept is its connection's, which has ends
-  pub kept_ends : (slot : ℕ) (own : Kept) → kept slot ≡ Some own → IsSome (ends_at ends own.request.origin.conn)
+  pub kept_ends : (slot : ℕ) (own : LinkedRequest) → kept slot ≡ Some own → IsSome (ends_at ends own.request.origin.conn)
   kept_ends slot own there =
       let conn : ℕ = own.request.origin.conn in
       has_ends (λ c k. link_of c (kept k)) ends order conn slot own.link

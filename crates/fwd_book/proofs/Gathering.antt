@@ -1,5 +1,5 @@
 -- Where origins rise, each stands once; and what a request's receipt is.
-use Rattle.std.proofs.Common.{arith, ◌≡◌, ◌⊎◌, inl, inr, ◌<◌, ◌≤◌, length, drop, get_or, ℕ, zero, suc, Bool, true, false, cond, Option, Some, Result, Ok, Err, IfOk, List, [], ◌∷◌, ◌++◌, refl, sym, ap, subst, ◌∙◌}
+use Rattle.std.proofs.Common.{arith, ◌≡◌, ◌⊎◌, inl, inr, ◌<◌, ◌≤◌, length, drop, get_or, ℕ, zero, suc, Bool, true, false, cond, Option, Some, None, Result, Ok, Err, IfOk, List, [], ◌∷◌, ◌++◌, refl, sym, ap, subst, ◌∙◌}
 use Rattle.std.specs.Prelude.{not, filter, ◌&&◌, ◌||◌, ◌==◌, nat_lt}
 use Rattle.std.specs.List.{flat_map}
 use Rattle.std.proofs.lemmas.Bool.{eqb-true, ltb-true, lt-ltb}
@@ -7,8 +7,10 @@ use Rattle.fwd_modes.specs.declared.origin.Origin.{Origin}
 use Rattle.fwd_session.specs.ServerAcks.{ServerAck}
 use Rattle.fwd_book.specs.History.{Entered, is_origin, is_settled, request_at}
 use Rattle.fwd_book.specs.Receipts.{once, receipt_of, receipt_if}
+use Rattle.fwd_book.specs.Live.{LiveBook, settled_if, live_is_settled}
+use Rattle.std.proofs.lemmas.Option.{same_Some}
 use Rattle.fwd_book.specs.Gathering.{is_behind, stands_behind, rise_behind}
-use Rattle.fwd_book.proofs.Facts.{both_left, both_right}
+use Rattle.fwd_book.proofs.Facts.{none_some, both_left, both_right}
 
 -- ---- one behind the other
 
@@ -117,6 +119,41 @@ given-some {X = X} f (p ∷ os) (suc i) d x within one none = by (f p) (given-so
     by : (xs : List X) → (flat_map f os ≡ [] → ⊥) → xs ++ flat_map f os ≡ [] → ⊥
     by [] more e = more e
     by (y ∷ xs) more e = absurd cc
+
+-- where nothing is given, the request of no origin has all its entries acknowledged
+pub none-settled : (b : LiveBook) (os : List Origin) (i : ℕ) (d : Origin) → i < length os
+    → flat_map (λ o. receipt_if b.settled (request_at b.requests o)) os ≡ []
+    → live_is_settled b (get_or os i d) ≡ false
+none-settled b os i d within none = by (request_at b.requests (get_or os i d)) refl
+  where
+    by : (found : Option Entered) → request_at b.requests (get_or os i d) ≡ found
+        → live_is_settled b (get_or os i d) ≡ false
+    by None is = ap (settled_if b.settled) is
+    by (Some q) is = ap (settled_if b.settled) is ∙ at (is_settled b.settled q) refl
+      where
+        at : (a : Bool) → is_settled b.settled q ≡ a → is_settled b.settled q ≡ false
+        at false all = all
+        at true all =
+            absurd (given-some (λ o. receipt_if b.settled (request_at b.requests o)) os i d (receipt_of b.settled q) within
+            (given-one b.settled b.requests (get_or os i d) q is all) none)
+
+-- what is there only where a test passes
+pub when-all : {X : Type 0} (a : Bool) (x y : X) → Some x ≡ cond a (Some y) None
+    → (a ≡ true) × (x ≡ y)
+when-all true x y e = (refl, same_Some _ _ e)
+when-all false x y e = absurd (none_some (sym e))
+
+pub when-none : {X : Type 0} (a : Bool) (y : X) → None ≡ cond a (Some y) None → a ≡ false
+when-none true y e = absurd (none_some e)
+when-none false y e = refl
+
+pub when-given : {X : Type 0} (a : Bool) (x y : X) → x ∷ [] ≡ cond a (y ∷ []) []
+    → (a ≡ true) × (x ≡ y)
+when-given {X = X} true x y e = (refl, head e)
+  where
+    head : {v w : X} → v ∷ [] ≡ w ∷ [] → v ≡ w
+    head f = cc
+when-given false x y e = absurd (some-there [] x [] e)
 
 -- what is true of what is given is true of what follows
 pub ok-then : {X E : Type 0} (r : Result X E) (p q : X → Type 0) → ((x : X) → p x → q x)

@@ -6,6 +6,7 @@ pub mod Slotting
 pub mod Linking
 pub mod Chaining
 pub mod Leading
+pub mod Standing
 pub mod Seats
 pub mod Keeping
 pub mod Stepping

@@ -3,7 +3,7 @@ use Rattle.std.proofs.Common.{◌≡◌, ℕ, Bool, true, false, cond, zero, suc
 use Rattle.std.specs.Prelude.{not, ◌||◌, ◌==◌, is_some, filter, option_map, option_and_then, unwrap_or, slice_get}
 use Rattle.std.specs.List.{list_any}
 use Rattle.std.proofs.lemmas.Bool.{eqb-true, eq-eqb}
-use Rattle.fwd_book.specs.declared.connection_index.Link.{Link}
+use Rattle.fwd_book.specs.declared.connection_index.RequestLinks.{RequestLinks}
 use Rattle.fwd_book.specs.Links.{is_the, last_of, link_in, with_later, with_earlier, AreOnce}
 use Rattle.fwd_book.proofs.Facts.{apart, none_some, neither_left, neither_right, turned}
 use Rattle.std.proofs.lemmas.Option.{same_Some}
@@ -68,7 +68,7 @@ pub appended : (before : Option ℕ) (rs : List ℕ) (n m : ℕ) → list_any (�
     (link_in before rs m))
 appended before [] n m fresh once = by (is_the before m)
   where
-    new : Option Link
+    new : Option RequestLinks
     new = Some (record { earlier = before; later = None })
 
     by : (b : Bool) → cond (n == m) new None ≡ cond (n == m) new (cond b None None)
@@ -76,13 +76,13 @@ appended before [] n m fresh once = by (is_the before m)
     by false = refl
 appended before (r ∷ []) n m fresh once = by (r == m) (n == m) refl refl
   where
-    told : Option Link
+    told : Option RequestLinks
     told = Some (record { earlier = before; later = Some n })
 
-    own : Option Link
+    own : Option RequestLinks
     own = Some (record { earlier = before; later = None })
 
-    new : Option Link
+    new : Option RequestLinks
     new = Some (record { earlier = Some r; later = None })
 
     by : (a b : Bool) → (r == m) ≡ a → (n == m) ≡ b
@@ -97,13 +97,13 @@ appended before (r ∷ s ∷ rs) n m fresh once = by (r == m) refl (appended (So
     last : Option ℕ
     last = last_of (Some s) rs
 
-    own : Option Link
+    own : Option RequestLinks
     own = Some (record { earlier = before; later = Some s })
 
-    link : Option Link
+    link : Option RequestLinks
     link = link_in (Some r) (s ∷ rs) m
 
-    new : Option Link
+    new : Option RequestLinks
     new = Some (record { earlier = last; later = None })
 
     by : (a : Bool) → (r == m) ≡ a
@@ -148,7 +148,7 @@ last_with before (r ∷ rs) n = last_with (Some r) rs n
 -- ---- a request leaves
 
 -- what is found of a request's link once a request with this link left
-abbrev pub relinked : ℕ → Option ℕ → Option ℕ → ℕ → Option Link → Option Link
+abbrev pub relinked : ℕ → Option ℕ → Option ℕ → ℕ → Option RequestLinks → Option RequestLinks
 relinked n earlier later m link =
     cond (is_the later m)
     (option_map (with_earlier earlier) (cond (is_the earlier m) (option_map (with_later later) (cond (n == m) None link)) (cond (n == m) None link)))
@@ -171,7 +171,7 @@ relinked_none n earlier later m = by (n == m) (is_the earlier m) (is_the later m
     by false false false = refl
 
 -- the request behind one is another than what is not there
-pub later_other : (before : Option ℕ) (rs : List ℕ) (n : ℕ) (link : Link) (m : ℕ)
+pub later_other : (before : Option ℕ) (rs : List ℕ) (n : ℕ) (link : RequestLinks) (m : ℕ)
     → link_in before rs n ≡ Some link → list_any (λ r. m == r) rs ≡ false
     → is_the link.later m ≡ false
 later_other before [] n link m there none = absurd (none_some there)
@@ -187,11 +187,11 @@ later_other before (r ∷ rs) n link m there none = by (r == n) there (λ f. lat
         → (link_in (Some r) rs n ≡ Some link → is_the link.later m ≡ false)
         → is_the link.later m ≡ false
     by true f more =
-        sym (ap (λ (k : Link). is_the k.later m) (same_Some _ _ f)) ∙ next rs (neither_right (m == r) (list_any (λ s. m == s) rs) none)
+        sym (ap (λ (k : RequestLinks). is_the k.later m) (same_Some _ _ f)) ∙ next rs (neither_right (m == r) (list_any (λ s. m == s) rs) none)
     by false f more = more f
 
 -- and so is the request before one
-pub earlier_other : (before : Option ℕ) (rs : List ℕ) (n : ℕ) (link : Link) (m : ℕ)
+pub earlier_other : (before : Option ℕ) (rs : List ℕ) (n : ℕ) (link : RequestLinks) (m : ℕ)
     → link_in before rs n ≡ Some link → list_any (λ r. m == r) rs ≡ false
     → is_the before m ≡ false → is_the link.earlier m ≡ false
 earlier_other before [] n link m there none first = absurd (none_some there)
@@ -202,11 +202,11 @@ earlier_other before (r ∷ rs) n link m there none first = by (r == n) there (�
         ≡ Some link
         → (link_in (Some r) rs n ≡ Some link → is_the link.earlier m ≡ false)
         → is_the link.earlier m ≡ false
-    by true f more = sym (ap (λ (k : Link). is_the k.earlier m) (same_Some _ _ f)) ∙ first
+    by true f more = sym (ap (λ (k : RequestLinks). is_the k.earlier m) (same_Some _ _ f)) ∙ first
     by false f more = more f
 
 -- behind another one there is an earlier one
-has_earlier : (r : ℕ) (rs : List ℕ) (n : ℕ) (link : Link) → link_in (Some r) rs n ≡ Some link
+has_earlier : (r : ℕ) (rs : List ℕ) (n : ℕ) (link : RequestLinks) → link_in (Some r) rs n ≡ Some link
     → is_some link.earlier ≡ true
 has_earlier r [] n link there = absurd (none_some there)
 has_earlier r (s ∷ rs) n link there = by (s == n) there (has_earlier s rs n link)
@@ -216,7 +216,7 @@ has_earlier r (s ∷ rs) n link there = by (s == n) there (has_earlier s rs n li
         ≡ Some link
         → (link_in (Some s) rs n ≡ Some link → is_some link.earlier ≡ true)
         → is_some link.earlier ≡ true
-    by true f more = sym (ap (λ (k : Link). is_some k.earlier) (same_Some _ _ f))
+    by true f more = sym (ap (λ (k : RequestLinks). is_some k.earlier) (same_Some _ _ f))
     by false f more = more f
 
 -- the one that leaves is the first of them, and none else
@@ -233,7 +233,7 @@ without_other r n rs other =
     ap (λ b. cond (not b) (r ∷ filter (λ s. not (n == s)) rs) (filter (λ s. not (n == s)) rs)) (turned n r other)
 
 -- what is first behind a request once one leaves
-next_without : (r : ℕ) (rs : List ℕ) (n : ℕ) (link : Link) → list_any (λ s. r == s) rs ≡ false
+next_without : (r : ℕ) (rs : List ℕ) (n : ℕ) (link : RequestLinks) → list_any (λ s. r == s) rs ≡ false
     → AreOnce rs → link_in (Some r) rs n ≡ Some link
     → slice_get (filter (λ s. not (n == s)) rs) 0
     ≡ cond (is_the link.earlier r) link.later (slice_get rs 0)
@@ -248,13 +248,13 @@ next_without r (s ∷ rs) n link others once there = by (s == n) refl there
     by true e f =
         ap (λ xs. slice_get xs 0) (without_first s n rs (eqb-true s n e) once.0)
         ∙ sym (ap (λ b. cond b (slice_get rs 0) (Some s)) (eq-eqb r r refl))
-        ∙ ap (λ (k : Link). cond (is_the k.earlier r) k.later (Some s)) (same_Some _ _ f)
+        ∙ ap (λ (k : RequestLinks). cond (is_the k.earlier r) k.later (Some s)) (same_Some _ _ f)
     by false e f =
         ap (λ xs. slice_get xs 0) (without_other s n rs e)
         ∙ sym (ap (λ b. cond b link.later (Some s)) (earlier_other (Some s) rs n link r f (neither_right (r == s) (list_any (λ x. r == x) rs) others) (turned s r (neither_left (r == s) (list_any (λ x. r == x) rs) others))))
 
 -- the first of them leaves: the next one has no longer it before it, but what was before it
-first_leaves : (before : Option ℕ) (r : ℕ) (rs : List ℕ) (m : ℕ) (own : Link) → AreOnce rs
+first_leaves : (before : Option ℕ) (r : ℕ) (rs : List ℕ) (m : ℕ) (own : RequestLinks) → AreOnce rs
     → list_any (λ s. r == s) rs ≡ false → list_any (is_the before) rs ≡ false
     → link_in before rs m
     ≡ relinked r before (slice_get rs 0) m (cond (r == m) (Some own) (link_in (Some r) rs m))
@@ -269,10 +269,10 @@ first_leaves before r [] m own once others aside = sym (by (r == m) (is_the befo
     by false false = refl
 first_leaves before r (s ∷ rs) m own once others aside = by (s == m) refl
   where
-    rest : Option Link
+    rest : Option RequestLinks
     rest = link_in (Some s) rs m
 
-    old : Option Link
+    old : Option RequestLinks
     old = Some (record { earlier = Some r; later = slice_get rs 0 })
 
     none_before : (b : Bool) → is_the before m ≡ b → link_in (Some s) rs m ≡ cond b (option_map (with_later (Some s)) rest) rest
@@ -311,7 +311,7 @@ first_leaves before r (s ∷ rs) m own once others aside = by (s == m) refl
         sym (λ i. option_map (with_earlier before) (cond (first i) (option_map (with_later (Some s)) (cond (other i) None (cond (other i) (Some own) old))) (cond (other i) None (cond (other i) (Some own) old))))
 
 -- the links without one: what it was linked to is linked to one another
-pub unlinked : (before : Option ℕ) (rs : List ℕ) (n : ℕ) (link : Link) → AreOnce rs
+pub unlinked : (before : Option ℕ) (rs : List ℕ) (n : ℕ) (link : RequestLinks) → AreOnce rs
     → list_any (is_the before) rs ≡ false → link_in before rs n ≡ Some link
     → (m : ℕ)
     → link_in before (filter (λ r. not (n == r)) rs) m
@@ -319,7 +319,7 @@ pub unlinked : (before : Option ℕ) (rs : List ℕ) (n : ℕ) (link : Link) →
 unlinked before [] n link once aside there m = absurd (none_some there)
 unlinked before (r ∷ rs) n link once aside there m = by (r == n) refl there (unlinked (Some r) rs n link once.1 once.0)
   where
-    own : Link
+    own : RequestLinks
     own = record { earlier = before; later = slice_get rs 0 }
 
     left : List ℕ
@@ -379,7 +379,7 @@ once_without (r ∷ rs) n once = by (n == r) (once_without rs n once.1)
     by false more = (still rs once.0, more)
 
 -- the first and the last without one
-pub first_without : (rs : List ℕ) (n : ℕ) (link : Link) → AreOnce rs → link_in None rs n ≡ Some link
+pub first_without : (rs : List ℕ) (n : ℕ) (link : RequestLinks) → AreOnce rs → link_in None rs n ≡ Some link
     → slice_get (filter (λ r. not (n == r)) rs) 0
     ≡ cond (is_some link.earlier) (slice_get rs 0) link.later
 first_without [] n link once there = absurd (none_some there)
@@ -392,12 +392,12 @@ first_without (r ∷ rs) n link once there = by (r == n) refl there
         ≡ cond (is_some link.earlier) (Some r) link.later
     by true e f =
         ap (λ xs. slice_get xs 0) (without_first r n rs (eqb-true r n e) once.0)
-        ∙ ap (λ (k : Link). cond (is_some k.earlier) (Some r) k.later) (same_Some _ _ f)
+        ∙ ap (λ (k : RequestLinks). cond (is_some k.earlier) (Some r) k.later) (same_Some _ _ f)
     by false e f =
         ap (λ xs. slice_get xs 0) (without_other r n rs e)
         ∙ sym (ap (λ b. cond b (Some r) link.later) (has_earlier r rs n link f))
 
-pub last_without : (before : Option ℕ) (rs : List ℕ) (n : ℕ) (link : Link) → AreOnce rs
+pub last_without : (before : Option ℕ) (rs : List ℕ) (n : ℕ) (link : RequestLinks) → AreOnce rs
     → link_in before rs n ≡ Some link
     → last_of before (filter (λ r. not (n == r)) rs)
     ≡ cond (is_some link.later) (last_of before rs) link.earlier
@@ -417,7 +417,7 @@ last_without before (r ∷ rs) n link once there = by (r == n) refl there (last_
         ≡ cond (is_some link.later) (last_of (Some r) rs) link.earlier
     by true e f more =
         ap (last_of before) (without_first r n rs (eqb-true r n e) once.0) ∙ behind rs
-        ∙ ap (λ (k : Link). cond (is_some k.later) (last_of (Some r) rs) k.earlier) (same_Some _ _ f)
+        ∙ ap (λ (k : RequestLinks). cond (is_some k.later) (last_of (Some r) rs) k.earlier) (same_Some _ _ f)
     by false e f more = ap (last_of before) (without_other r n rs e) ∙ more f
 
 -- ---- one after the other
@@ -433,12 +433,12 @@ among_at (r ∷ rs) (suc i) n m at none =
 
 -- the request behind the one at a place stands at the next place
 pub later_at : (before : Option ℕ) (rs : List ℕ) (i n : ℕ) → AreOnce rs → slice_get rs i ≡ Some n
-    → option_and_then (λ (k : Link). k.later) (link_in before rs n) ≡ slice_get rs (suc i)
+    → option_and_then (λ (k : RequestLinks). k.later) (link_in before rs n) ≡ slice_get rs (suc i)
 later_at before [] i n once at = absurd (none_some at)
 later_at before (r ∷ rs) zero n once at =
-    ap (λ b. option_and_then (λ (k : Link). k.later) (cond b (Some (record { earlier = before; later = slice_get rs 0 })) (link_in (Some r) rs n))) (eq-eqb r n (same_Some _ _ at))
+    ap (λ b. option_and_then (λ (k : RequestLinks). k.later) (cond b (Some (record { earlier = before; later = slice_get rs 0 })) (link_in (Some r) rs n))) (eq-eqb r n (same_Some _ _ at))
 later_at before (r ∷ rs) (suc i) n once at =
-    ap (λ b. option_and_then (λ (k : Link). k.later) (cond b (Some (record { earlier = before; later = slice_get rs 0 })) (link_in (Some r) rs n))) (among_at rs i n r at once.0)
+    ap (λ b. option_and_then (λ (k : RequestLinks). k.later) (cond b (Some (record { earlier = before; later = slice_get rs 0 })) (link_in (Some r) rs n))) (among_at rs i n r at once.0)
     ∙ later_at (Some r) rs i n once.1 at
 
 -- so many of them and the next one

@@ -6,7 +6,7 @@ use Rattle.std.proofs.lemmas.Bool.{eqb-true, eqb-false}
 use Rattle.std.proofs.lemmas.List.Sums.{sum_by-cons}
 use Rattle.slab.specs.Slab.{Slab, get, slab_len, Updates, with_value}
 use Rattle.slab.proofs.SlabLemmas.{Updates-with_value}
-use Rattle.fwd_book.specs.declared.connection_index.Kept.{Kept}
+use Rattle.fwd_book.specs.declared.connection_index.LinkedRequest.{LinkedRequest}
 use Rattle.fwd_book.specs.Slots.{request_of}
 use Rattle.fwd_book.specs.Links.{leads_to, follows_on}
 use Rattle.fwd_book.proofs.Facts.{none_some}
@@ -54,22 +54,22 @@ unwritten old key f none k = by (key == k) refl
     by false is = refl
 
 -- a request stays where its link is written
-pub later-request : (later : Option ℕ) (k : Option Kept) → request_of (option_map (leads_to later) k) ≡ request_of k
+pub later-request : (later : Option ℕ) (k : Option LinkedRequest) → request_of (option_map (leads_to later) k) ≡ request_of k
 later-request later None = refl
 later-request later (Some k) = refl
 
-pub earlier-request : (earlier : Option ℕ) (k : Option Kept) → request_of (option_map (follows_on earlier) k) ≡ request_of k
+pub earlier-request : (earlier : Option ℕ) (k : Option LinkedRequest) → request_of (option_map (follows_on earlier) k) ≡ request_of k
 earlier-request earlier None = refl
 earlier-request earlier (Some k) = refl
 
 -- of one of two with the same request
-pub either-request : (b : Bool) (x y : Option Kept) → request_of x ≡ request_of y
+pub either-request : (b : Bool) (x y : Option LinkedRequest) → request_of x ≡ request_of y
     → request_of (cond b x y) ≡ request_of y
 either-request true x y same = same
 either-request false x y same = refl
 
 -- and once one leaves
-pub held-without : (key k : ℕ) (kept : Option Kept)
+pub held-without : (key k : ℕ) (kept : Option LinkedRequest)
     → request_of (cond (key == k) None kept) ≡ cond (key == k) None (request_of kept)
 held-without key k kept = by (key == k)
   where

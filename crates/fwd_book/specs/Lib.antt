@@ -2,8 +2,10 @@
 pub mod History
 pub mod Receipts
 pub mod Live
+pub mod Refusals
 -- how the code keeps it
 pub mod Gathering
 pub mod Slots
 pub mod Links
 pub mod ChunkRefs
+pub mod Parts

@@ -5,18 +5,18 @@ use Rattle.std.specs.List.{list_any}
 use Rattle.std.specs.Map.{lookup}
 use Rattle.slab.specs.Slab.{Slab, get}
 use Rattle.fwd_modes.specs.declared.origin.Origin.{Origin}
-use Rattle.fwd_book.specs.declared.connection_index.Link.{Link}
+use Rattle.fwd_book.specs.declared.connection_index.RequestLinks.{RequestLinks}
 use Rattle.fwd_book.specs.declared.connection_index.Ends.{Ends}
-use Rattle.fwd_book.specs.declared.connection_index.Kept.{Kept}
+use Rattle.fwd_book.specs.declared.connection_index.LinkedRequest.{LinkedRequest}
 use Rattle.fwd_book.specs.History.{Entered, is_of}
 
 -- the link of a request that is kept, if it is the connection's
-abbrev pub link_of : ℕ → Option Kept → Option Link
+abbrev pub link_of : ℕ → Option LinkedRequest → Option RequestLinks
 link_of conn None = None
 link_of conn (Some k) = if is_of conn k.request then Some k.link else None
 
 -- the link of the request in a slot, if it is the connection's
-abbrev pub link_at : Slab Kept → ℕ → ℕ → Option Link
+abbrev pub link_at : Slab LinkedRequest → ℕ → ℕ → Option RequestLinks
 link_at kept conn slot = link_of conn (get kept slot)
 
 -- the first and the last request of a connection, if it has any
@@ -34,26 +34,26 @@ last_of earlier [] = earlier
 last_of earlier (r ∷ rs) = last_of (Some r) rs
 
 -- the link of a slot among these, which come behind another one or none
-abbrev pub link_in : Option ℕ → List ℕ → ℕ → Option Link
+abbrev pub link_in : Option ℕ → List ℕ → ℕ → Option RequestLinks
 link_in earlier [] slot = None
 link_in earlier (r ∷ rs) slot =
     if r == slot then Some (record { earlier = earlier; later = slice_get rs 0 })
     else link_in (Some r) rs slot
 
 -- the link leads to another later request
-abbrev pub with_later : Option ℕ → Link → Link
+abbrev pub with_later : Option ℕ → RequestLinks → RequestLinks
 with_later later link = record { earlier = link.earlier; later = later }
 
 -- the link leads to another earlier request
-abbrev pub with_earlier : Option ℕ → Link → Link
+abbrev pub with_earlier : Option ℕ → RequestLinks → RequestLinks
 with_earlier earlier link = record { earlier = earlier; later = link.later }
 
 -- another request is the later one
-abbrev pub leads_to : Option ℕ → Kept → Kept
+abbrev pub leads_to : Option ℕ → LinkedRequest → LinkedRequest
 leads_to later k = record { request = k.request; link = with_later later k.link }
 
 -- another request is the earlier one
-abbrev pub follows_on : Option ℕ → Kept → Kept
+abbrev pub follows_on : Option ℕ → LinkedRequest → LinkedRequest
 follows_on earlier k = record { request = k.request; link = with_earlier earlier k.link }
 
 -- the ends with this slot behind the others, if there are any
@@ -85,7 +85,8 @@ order_without slot order c = filter (λ r. not (slot == r)) (order c)
 -- These links and ends show each connection's slots in this order: a request is linked to the one
 -- before it and to the one behind it, the ends are the first and the last, and each stands once.
 pub record AreChained
-    (links : ℕ → ℕ → Option Link) (ends : List (ℕ × Ends)) (order : ℕ → List ℕ) : Type 0 where
+    (links : ℕ → ℕ → Option RequestLinks) (ends : List (ℕ × Ends)) (order : ℕ → List ℕ)
+    : Type 0 where
   pub linked : (conn slot : ℕ) → links conn slot ≡ link_in None (order conn) slot
   pub first : (conn : ℕ) → option_map (λ e. e.first) (ends_at ends conn) ≡ slice_get (order conn) 0
   pub last : (conn : ℕ) → option_map (λ e. e.last) (ends_at ends conn) ≡ last_of None (order conn)

@@ -5,7 +5,7 @@ use Rattle.std.specs.Prelude.{◌≡◌, ℕ, ◌&&◌, ◌==◌, Bool, List, []
 use Rattle.std.specs.List.{flat_map, AllByRecursion}
 use Rattle.slab.specs.Slab.{Slab, get}
 use Rattle.fwd_modes.specs.declared.origin.Origin.{Origin}
-use Rattle.fwd_book.specs.declared.connection_index.Kept.{Kept}
+use Rattle.fwd_book.specs.declared.connection_index.LinkedRequest.{LinkedRequest}
 use Rattle.fwd_book.specs.History.{Entered, is_of}
 
 -- the numbers of an origin, and its request if that is still there
@@ -33,12 +33,12 @@ abbrev pub AreKeyed : List Slot → Type 0
 AreKeyed slots = AllByRecursion (λ e. IfSome e.1 (λ q. e.0 ≡ key_of q.origin)) slots
 
 -- the request that is kept, if there is one
-abbrev pub request_of : Option Kept → Option Entered
+abbrev pub request_of : Option LinkedRequest → Option Entered
 request_of None = None
 request_of (Some k) = Some k.request
 
 -- the request in a slot, if there is one
-abbrev pub held_at : Slab Kept → ℕ → Option Entered
+abbrev pub held_at : Slab LinkedRequest → ℕ → Option Entered
 held_at kept slot = request_of (get kept slot)
 
 -- the request, if its origin has these numbers

@@ -94,7 +94,7 @@ pub struct Book {
     run: [u8; 6],
     output: u16,
     requests: Requests,
-    numbers: ChunkRefs,
+    chunk_refs: ChunkRefs,
     /// The request that room was made for.
     ready: Option<Batch>,
 }
@@ -106,7 +106,7 @@ impl Drop for Book {
             run: _,
             output: _,
             requests: _,
-            numbers: _,
+            chunk_refs: _,
             ready: _,
         } = self;
     }
@@ -119,40 +119,45 @@ impl Model for Book {
     ghost Value = { BookState };
 
     ghost view = { λ b. record {
-      live = live_of (record { run = b.run; output = b.output }) b.requests.items b.numbers.notes;
+      live = live_of (record { run = b.run; output = b.output }) b.requests.items
+          b.chunk_refs.notes;
       ready = b.ready;
     } };
 
-    ghost invariant = { λ b. AreOf b.numbers.notes b.requests.items
+    ghost invariant = { λ b. AreOf b.chunk_refs.notes b.requests.items
         × IsSound (live_of (record { run = b.run; output = b.output }) b.requests.items
-        b.numbers.notes)
-        × HasRoom b.ready b.requests.room b.numbers.room };
+        b.chunk_refs.notes)
+        × HasRoom b.ready b.requests.room b.chunk_refs.room };
 }
 
+/// The slot of no request.
+const NO_SLOT: usize = usize::MAX;
+
 /// One request more has the numbers of these runs, which rise.
-fn use_all(numbers: &mut ChunkRefs, spans: &[Span])
-    requires room { length spans.now ≤ numbers.old.room }
-    requires few { (n : ℕ) → uses_in (note_at n numbers.old.notes) < 2 ^ 63 }
+fn use_all(chunk_refs: &mut ChunkRefs, spans: &[Span])
+    requires room { length spans.now ≤ chunk_refs.old.room }
+    requires few { (n : ℕ) → uses_in (note_at n chunk_refs.old.notes) < 2 ^ 63 }
     requires rising { AreRising (map (λ s. s.number) spans.now) }
-    ensures { (n : ℕ) → note_at n numbers.new.notes
+    ensures { (n : ℕ) → note_at n chunk_refs.new.notes
         ≡ (if list_any (λ s. s.number == n) spans.now
-        then Some (used_more (note_at n numbers.old.notes)) else note_at n numbers.old.notes) }
+        then Some (used_more (note_at n chunk_refs.old.notes))
+        else note_at n chunk_refs.old.notes) }
 {
     for span in spans {
-        numbers.more(span.number);
+        chunk_refs.more(span.number);
     }
 }
 
 /// One request less has the numbers of these runs, which rise.
-fn leave_all(numbers: &mut ChunkRefs, spans: &[Span])
+fn leave_all(chunk_refs: &mut ChunkRefs, spans: &[Span])
     requires rising { AreRising (map (λ s. s.number) spans.now) }
-    ensures noted { (n : ℕ) → note_at n numbers.new.notes
+    ensures noted { (n : ℕ) → note_at n chunk_refs.new.notes
         ≡ (if list_any (λ s. s.number == n) spans.now
-        then used_less (note_at n numbers.old.notes) else note_at n numbers.old.notes) }
-    ensures room { numbers.old.room ≤ numbers.new.room }
+        then used_less (note_at n chunk_refs.old.notes) else note_at n chunk_refs.old.notes) }
+    ensures room { chunk_refs.old.room ≤ chunk_refs.new.room }
 {
     for span in spans {
-        numbers.less(span.number);
+        chunk_refs.less(span.number);
     }
 }
 
@@ -188,8 +193,8 @@ fn are_rising(origins: &[Origin]) -> bool
 fn once(alloc: Global, origins: &[Origin]) -> Result<Vec<Origin>, AllocError>
     ensures { IfOk result (λ asked. asked.items ≡ once origins.now) }
 {
-    let mut known = IndexSet::new(alloc);
-    let mut asked = Vec::new(alloc);
+    let mut known = IndexSet::with_capacity(alloc, origins.len())?;
+    let mut asked = Vec::with_capacity(alloc, origins.len())?;
     for origin in origins {
         if known.insert((origin.conn, origin.request))? {
             asked.push(*origin)?;
@@ -210,7 +215,7 @@ impl Book {
             run,
             output,
             requests: Requests::new(alloc),
-            numbers: ChunkRefs::new(alloc),
+            chunk_refs: ChunkRefs::new(alloc),
             ready: None,
         }
     }
@@ -236,15 +241,16 @@ impl Book {
     {
         let request = batch.share()?;
         self.requests.reserve()?;
-        self.numbers.reserve(request.len())?;
+        self.chunk_refs.reserve(request.len())?;
         self.ready = Some(request);
         Ok(())
     }
 
     /// The request that room was made for is entered, under the runs that its entries took. No
     /// chunk of these runs was acknowledged yet: a buffer puts entries into open chunks, and only
-    /// closed ones are acknowledged.
-    pub fn enter(&mut self, origin: Origin, spans: Spans)
+    /// closed ones are acknowledged. Answers the request's slot, where it stays: `receipt_at` and
+    /// `leave_at` find it there.
+    pub fn enter(&mut self, origin: Origin, spans: Spans) -> usize
         requires ready { IsSome self.old.ready }
         requires alone { request_at self.old.live.requests origin ≡ None }
         requires cut { IfSome self.old.ready (λ r. AreCutBy spans r.entries) }
@@ -255,10 +261,10 @@ impl Book {
         let Some(request) = self.ready.take() else {
             unreachable!();
         };
-        self.requests.are_few();
-        use_all(&mut self.numbers, spans.as_slice());
+        self.requests.are_few(); // for the proof
+        use_all(&mut self.chunk_refs, spans.as_slice());
         self.requests
-            .push(EnteredRequest::new(origin, request, spans));
+            .push(EnteredRequest::new(origin, request, spans))
     }
 
     /// Whether the request of an origin is owed an answer.
@@ -268,17 +274,18 @@ impl Book {
         self.requests.get(origin).is_some()
     }
 
-    /// The request of an origin leaves. Answers whether it was there.
-    fn leave(&mut self, origin: Origin) -> bool
+    /// The request of an origin leaves, which may stand in this slot. Answers whether it was there.
+    pub fn leave_at(&mut self, slot: usize, origin: Origin) -> bool
         ensures held { result ≡ is_some (request_at self.old.live.requests origin) }
         ensures left { self.new ≡ record self.old {
           live = live_leaves self.old.live (origin ∷ []);
         } }
+        ensures same { result ≡ false → self.new ≡ self.old }
     {
-        let Some(kept) = self.requests.take(origin) else {
+        let Some(kept) = self.requests.take_at(slot, origin) else {
             return false;
         };
-        leave_all(&mut self.numbers, kept.spans());
+        leave_all(&mut self.chunk_refs, kept.spans());
         true
     }
 
@@ -293,7 +300,7 @@ impl Book {
         ensures sound { IsSound self.old.live }
     {
         let kept = self.requests.take_first(conn)?;
-        leave_all(&mut self.numbers, kept.spans());
+        leave_all(&mut self.chunk_refs, kept.spans());
         Some(kept.origin())
     }
 
@@ -310,7 +317,7 @@ impl Book {
         } }
     {
         let count = acked.count();
-        self.numbers.put(acked);
+        self.chunk_refs.put(acked);
         count
     }
 
@@ -321,7 +328,7 @@ impl Book {
         ensures kept { evidence_for self.now.live.requests self.now.live.settled
             ≡ self.now.live.settled }
     {
-        let _output = self.output;
+        let _output = self.output; // for the proof
     }
 
     /// The requests of these origins leave: they were told, or nobody is to be told any more.
@@ -332,10 +339,10 @@ impl Book {
           live = live_leaves self.old.live origins.now;
         } }
     {
-        self.is_sound();
+        self.is_sound(); // for the proof
         let mut count = 0;
         for origin in origins {
-            if self.leave(*origin) {
+            if self.leave_at(NO_SLOT, *origin) {
                 count += 1;
             }
         }
@@ -357,35 +364,23 @@ impl Book {
         ensures count { result ≡ live_owed_of self.old.live conn }
         ensures left { self.new ≡ record self.old { live = live_forgets_of self.old.live conn } }
     {
-        self.requests.are_few();
+        self.requests.are_few(); // for the proof
         let mut count = 0;
         while let Some(_) = self.leave_first(conn) {
             count += 1;
         }
-        self.is_sound();
+        self.is_sound(); // for the proof
         count
-    }
-
-    /// The request of an origin, if it is owed an answer and all its entries are acknowledged.
-    fn settled(&self, origin: Origin) -> Option<&EnteredRequest>
-        ensures some { IfSome result (λ kept.
-            (request_at self.now.live.requests origin ≡ Some kept.now)
-            × (is_settled self.now.live.settled kept.now ≡ true)) }
-        ensures none { IfNone result (live_is_settled self.now.live origin ≡ false) }
-    {
-        let kept = self.requests.get(origin)?;
-        if self.numbers.has_all(kept.spans()) {
-            Some(kept)
-        } else {
-            None
-        }
     }
 
     /// Whether the request of an origin is owed an answer, and all its entries are acknowledged.
     pub fn is_settled(&self, origin: Origin) -> bool
         ensures { result ≡ live_is_settled self.now.live origin }
     {
-        self.settled(origin).is_some()
+        match self.requests.get(origin) {
+            None => false,
+            Some(kept) => self.chunk_refs.has_all(kept.spans()),
+        }
     }
 
     /// Whether a request of one of these origins is owed an answer, and all its entries are
@@ -404,7 +399,7 @@ impl Book {
             ≡ map (λ q. q.origin) (live_due self.now.live conn)) }
         ensures none { live_due self.now.live conn ≡ [] → IsOk result }
     {
-        self.requests.due(alloc, conn, &self.numbers)
+        self.requests.due(alloc, conn, &self.chunk_refs)
     }
 
     /// The bytes of the option's `chunk` value of an origin's request, as they were sent, if the
@@ -442,8 +437,8 @@ impl Book {
         ensures none { receipts self.now.live.settled self.now.live.requests origins.now ≡ []
             → IsOk result }
     {
-        self.is_sound();
-        receipts_are_right();
+        self.is_sound(); // for the proof
+        receipts_are_right(); // for the proof
         if are_rising(origins) {
             return self.receipts(alloc, origins);
         }
@@ -455,7 +450,7 @@ impl Book {
 
     /// The receipts of the requests of these origins whose entries are all acknowledged, one
     /// origin after the other. The only error is out of memory, and where there are none it takes
-    /// no memory.
+    /// no memory. With the first comes room for one of each origin.
     fn receipts(&self, alloc: Global, origins: &[Origin]) -> Result<Vec<Receipt>, AllocError>
         ensures given { IfOk result (λ given. given.items
             ≡ receipts_at self.now.live.settled self.now.live.requests origins.now) }
@@ -464,34 +459,74 @@ impl Book {
     {
         let mut given = Vec::new(alloc);
         for origin in origins {
-            if let Some(kept) = self.settled(*origin) {
-                given.push(self.receipt_of(alloc, kept)?)?;
+            if let Some(receipt) = self.receipt(alloc, *origin)? {
+                if given.is_empty() {
+                    given.reserve(origins.len())?;
+                }
+                given.push(receipt)?;
             }
         }
         Ok(given)
     }
 
-    /// The receipt of a request that is owed an answer, whose entries are all acknowledged. The
-    /// only error is out of memory.
-    fn receipt_of(&self, alloc: Global, kept: &EnteredRequest) -> Result<Receipt, AllocError>
+    /// The receipt of a request that is owed an answer, if its entries are all acknowledged. The
+    /// only error is out of memory, and where they are not it takes no memory.
+    fn receipt_of(
+        &self,
+        alloc: Global,
+        kept: &EnteredRequest,
+    ) -> Result<Option<Receipt>, AllocError>
         requires held { (origin : AbstractOrigin)
             × (request_at self.now.live.requests origin ≡ Some kept.now) }
-        requires settled { is_settled self.now.live.settled kept.now ≡ true }
-        ensures { IfOk result (λ receipt. receipt ≡ receipt_of self.now.live.settled kept.now) }
+        ensures given { IfOk result (λ given. option_to_list given
+            ≡ receipt_if self.now.live.settled (Some kept.now)) }
+        ensures none { is_settled self.now.live.settled kept.now ≡ false → IsOk result }
     {
-        let parts = self.numbers.parts(alloc, kept.spans())?;
-        Receipt::new(kept, parts)
+        match self.chunk_refs.parts(alloc, kept.spans())? {
+            None => Ok(None),
+            Some(parts) => Ok(Some(Receipt::new(kept, parts)?)),
+        }
     }
 
     /// The receipt of an origin's request, if it is here and its entries are all acknowledged. The
-    /// only error is out of memory.
+    /// only error is out of memory, and where they are not it takes no memory.
     pub fn receipt(&self, alloc: Global, origin: Origin) -> Result<Option<Receipt>, AllocError>
-        ensures { IfOk result (λ given. option_to_list given
+        ensures given { IfOk result (λ given. option_to_list given
             ≡ receipt_if self.now.live.settled (request_at self.now.live.requests origin)) }
+        ensures none { live_is_settled self.now.live origin ≡ false → IsOk result }
     {
-        match self.settled(origin) {
+        match self.requests.get(origin) {
             None => Ok(None),
-            Some(kept) => Ok(Some(self.receipt_of(alloc, kept)?)),
+            Some(kept) => self.receipt_of(alloc, kept),
+        }
+    }
+
+    /// The receipt of just this request, if it is owed an answer under this origin, with these runs
+    /// of its entries, and they are all acknowledged. It may stand in this slot. The only error is
+    /// out of memory.
+    pub fn receipt_at(
+        &self,
+        alloc: Global,
+        slot: usize,
+        origin: Origin,
+        batch: &Batch,
+        spans: &[Span],
+    ) -> Result<Option<Receipt>, AllocError>
+        ensures given { IfOk result (λ given. IfSome given (λ receipt.
+            (request_at self.now.live.requests origin
+            ≡ Some (entered_as batch.now origin spans.now))
+            × (is_settled self.now.live.settled (entered_as batch.now origin spans.now) ≡ true)
+            × (receipt ≡ receipt_of self.now.live.settled (entered_as batch.now origin spans.now)))) }
+        ensures none { IfOk result (λ given. IfNone given (request_at self.now.live.requests origin
+            ≡ Some (entered_as batch.now origin spans.now)
+            → is_settled self.now.live.settled (entered_as batch.now origin spans.now) ≡ false)) }
+    {
+        let Some(kept) = self.requests.get_at(slot, origin) else {
+            return Ok(None);
+        };
+        match self.receipt_of(alloc, kept)? {
+            Some(receipt) if kept.is_of(batch, spans) => Ok(Some(receipt)),
+            _ => Ok(None),
         }
     }
 }

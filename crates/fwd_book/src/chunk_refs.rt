@@ -9,20 +9,25 @@ ghost use Rattle.std.specs.Prelude.{
   ◌==◌,
   ℕ,
   [],
+  false,
+  None,
   Some,
   is_some,
   option_map,
   option_copied,
+  option_to_list,
   if◌then◌else◌,
   IfOk,
+  IsOk,
   OnOk,
 };
 ghost use Rattle.std.specs.List.{list_all, flat_map};
 ghost use Rattle.std.specs.Arc.{arc_value};
+ghost use Rattle.fwd_book.specs.Parts.{parts_shown};
 ghost use Rattle.fwd_book.specs.Receipts.{part_of};
 ghost use Rattle.fwd_book.specs.ChunkRefs.{note_at, uses_in, found_at, used_more, used_less, put_in};
 
-use crate::receipt::AckedRange;
+use crate::receipt::{AckedRange, Parts};
 use fwd_chunks::Span;
 use fwd_session::Acked;
 use indexmap::IndexMap;
@@ -162,17 +167,50 @@ impl ChunkRefs {
         spans.iter().all(|span| self.get(span.number).is_some())
     }
 
+    /// A run with what was acknowledged under its number, if anything was. The only error is out of
+    /// memory.
+    fn part(&self, span: Span) -> Result<Option<AckedRange>, AllocError>
+        ensures part { IfOk result (λ part. option_to_list part
+            ≡ part_of (found_at self.now.notes span.number) span) }
+        ensures none { found_at self.now.notes span.number ≡ None → IsOk result }
+    {
+        match self.get(span.number) {
+            None => Ok(None),
+            Some(acked) => Ok(Some(AckedRange::new(Arc::try_clone(acked)?, span.from, span.count))),
+        }
+    }
+
     /// The runs with what was acknowledged under their numbers. The only error is out of memory.
-    pub(crate) fn parts(&self, alloc: Global, spans: &[Span]) -> Result<Vec<AckedRange>, AllocError>
+    fn parts_of(&self, alloc: Global, spans: &[Span]) -> Result<Vec<AckedRange>, AllocError>
         ensures { IfOk result (λ parts. parts.items
             ≡ flat_map (λ s. part_of (found_at self.now.notes s.number) s) spans.now) }
     {
         let mut parts = Vec::with_capacity(alloc, spans.len())?;
         for span in spans {
-            if let Some(acked) = self.get(span.number) {
-                parts.push(AckedRange::new(Arc::try_clone(acked)?, span.from, span.count))?;
+            if let Some(part) = self.part(*span)? {
+                parts.push(part)?;
             }
         }
         Ok(parts)
+    }
+
+    /// The same, if something was acknowledged under the number of each run. One run alone is
+    /// looked for once, and takes no memory.
+    pub(crate) fn parts(&self, alloc: Global, spans: &[Span]) -> Result<Option<Parts>, AllocError>
+        ensures parts { IfOk result (λ parts. option_map parts_shown parts
+            ≡ (if list_all (λ s. is_some (found_at self.now.notes s.number)) spans.now
+            then Some (flat_map (λ s. part_of (found_at self.now.notes s.number) s) spans.now)
+            else None)) }
+        ensures none { list_all (λ s. is_some (found_at self.now.notes s.number)) spans.now ≡ false
+            → IsOk result }
+    {
+        match spans.split_first() {
+            Some((span, others)) if others.is_empty() => match self.part(*span)? {
+                None => Ok(None),
+                Some(part) => Ok(Some(Parts::One(part))),
+            },
+            _ if !self.has_all(spans) => Ok(None),
+            _ => Ok(Some(Parts::Many(self.parts_of(alloc, spans)?))),
+        }
     }
 }

@@ -54,7 +54,7 @@ use std::alloc::{AllocError, Global};
 
 /// The slots of the earlier and of the later request of the same connection.
 #[derive(Clone, Copy)]
-pub(crate) struct Link {
+pub(crate) struct RequestLinks {
     earlier: Option<usize>,
     later: Option<usize>,
 }
@@ -68,20 +68,20 @@ pub(crate) struct Ends {
 
 /// A request with its link.
 #[derive(Drop)]
-pub(crate) struct Kept {
+pub(crate) struct LinkedRequest {
     request: EnteredRequest,
-    link: Link,
+    link: RequestLinks,
 }
 
 /// Each request in a slot, and each connection that has one.
 #[derive(Drop)]
 pub(crate) struct ConnectionIndex {
-    kept: Slab<Kept>,
+    kept: Slab<LinkedRequest>,
     ends: IndexMap<u64, Ends>,
 }
 
 /// The request behind the one in this slot, if there is such a slot, is another.
-fn set_later(kept: &mut Slab<Kept>, slot: Option<usize>, later: Option<usize>)
+fn set_later(kept: &mut Slab<LinkedRequest>, slot: Option<usize>, later: Option<usize>)
     ensures linked { (k : ℕ) → get kept.new k
         ≡ (if is_the slot k then option_map (leads_to later) (get kept.old k)
         else get kept.old k) }
@@ -98,7 +98,7 @@ fn set_later(kept: &mut Slab<Kept>, slot: Option<usize>, later: Option<usize>)
 }
 
 /// The request before the one in this slot, if there is such a slot, is another.
-fn set_earlier(kept: &mut Slab<Kept>, slot: Option<usize>, earlier: Option<usize>)
+fn set_earlier(kept: &mut Slab<LinkedRequest>, slot: Option<usize>, earlier: Option<usize>)
     ensures linked { (k : ℕ) → get kept.new k
         ≡ (if is_the slot k then option_map (follows_on earlier) (get kept.old k)
         else get kept.old k) }
@@ -138,7 +138,7 @@ fn put_last(ends: &mut IndexMap<u64, Ends>, conn: u64, slot: usize) -> Option<us
 }
 
 /// The ends of a connection that has some, once a request left that was linked so.
-fn leave_ends(ends: &mut IndexMap<u64, Ends>, conn: u64, link: Link)
+fn leave_ends(ends: &mut IndexMap<u64, Ends>, conn: u64, link: RequestLinks)
     ensures first { IsSome (ends_at ends.old.entries conn)
         → (c : ℕ) → option_map (λ e. e.first) (ends_at ends.new.entries c)
         ≡ (if (conn == c) && not (is_some link.earlier) then link.later
@@ -249,16 +249,16 @@ impl ConnectionIndex {
         alloc: Global,
         conn: u64,
         most: usize,
-        numbers: &ChunkRefs,
+        chunk_refs: &ChunkRefs,
     ) -> Result<Vec<Origin>, AllocError>
         ensures due { (order : ℕ → List ℕ)
             → AreChained (link_at self.now.kept) self.now.ends.entries order
             → length (order conn) ≤ most → IfOk result (λ due. due.items
-            ≡ flat_map (passing_at (are_found numbers.now.notes) (held_at self.now.kept))
+            ≡ flat_map (passing_at (are_found chunk_refs.now.notes) (held_at self.now.kept))
             (order conn)) }
         ensures none { (order : ℕ → List ℕ)
             → AreChained (link_at self.now.kept) self.now.ends.entries order
-            → flat_map (passing_at (are_found numbers.now.notes) (held_at self.now.kept))
+            → flat_map (passing_at (are_found chunk_refs.now.notes) (held_at self.now.kept))
             (order conn) ≡ [] → IsOk result }
     {
         let mut due = Vec::new(alloc);
@@ -270,7 +270,7 @@ impl ConnectionIndex {
             let Some(kept) = self.kept.get(slot) else {
                 break;
             };
-            if numbers.has_all(kept.request.spans()) {
+            if chunk_refs.has_all(kept.request.spans()) {
                 due.push(kept.request.origin())?;
             }
             next = kept.link.later;
@@ -295,11 +295,11 @@ impl ConnectionIndex {
         let slot = self.kept.vacant_key();
         let earlier = put_last(&mut self.ends, request.origin().conn, slot);
         set_later(&mut self.kept, earlier, Some(slot));
-        let link = Link {
+        let link = RequestLinks {
             earlier,
             later: None,
         };
-        self.kept.insert_reserved(Kept { request, link })
+        self.kept.insert_reserved(LinkedRequest { request, link })
     }
 
     /// The request in a slot leaves, if there is one: the one before it and the one behind it are
@@ -316,7 +316,7 @@ impl ConnectionIndex {
         ensures capacity { self.new.kept.capacity ≡ self.old.kept.capacity }
         ensures ends { spare self.old.ends ≤ spare self.new.ends }
     {
-        let Kept { request, link } = self.kept.try_remove(slot)?;
+        let LinkedRequest { request, link } = self.kept.try_remove(slot)?;
         set_later(&mut self.kept, link.earlier, link.later);
         set_earlier(&mut self.kept, link.later, link.earlier);
         leave_ends(&mut self.ends, request.origin().conn, link);

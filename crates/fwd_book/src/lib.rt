@@ -1,4 +1,5 @@
-//! Who is to be told that all entries of its request were acknowledged, and on what evidence.
+//! Who is to be told that all entries of its request were acknowledged, and on what evidence; and
+//! why a request is not admitted.
 #![tactic(auto)]
 
 mod book;
@@ -7,8 +8,10 @@ mod connection_index;
 mod entered_request;
 mod laws;
 mod receipt;
+mod refusal;
 mod requests;
 
 pub use book::Book;
 pub use laws::{due_is_found, live_follows, origins_are_enough, receipts_are_right, stays_sound};
-pub use receipt::{AckedRange, Receipt};
+pub use receipt::Receipt;
+pub use refusal::AdmitRefusal;

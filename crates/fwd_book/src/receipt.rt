@@ -3,6 +3,7 @@
 ghost use Rattle.std.specs.Prelude.{◌≡◌, option_copied, IfOk};
 ghost use Rattle.std.specs.Arc.{arc_value};
 ghost use Rattle.std.specs.List.{concat, flat_map};
+ghost use Rattle.fwd_book.specs.Parts.{parts_shown};
 ghost use Rattle.fwd_book.specs.Receipts.{shown_by};
 
 use crate::entered_request::EnteredRequest;
@@ -10,6 +11,7 @@ use fwd_modes::{Batch, Origin};
 use fwd_session::Acked;
 use std::alloc::AllocError;
 use std::marker::Model;
+use std::slice;
 use std::sync::Arc;
 
 /// A run of a request's entries in a chunk that a server acknowledged.
@@ -64,12 +66,31 @@ impl AckedRange {
     }
 }
 
+/// The parts of a receipt, in the order of the entries. One alone takes no memory but its own.
+#[derive(Drop)]
+pub(crate) enum Parts {
+    One(AckedRange),
+    Many(Vec<AckedRange>),
+}
+
+impl Parts {
+    /// The parts as a slice.
+    fn as_slice(&self) -> &[AckedRange]
+        ensures { result.now ≡ parts_shown self.now }
+    {
+        match self {
+            Parts::One(part) => slice::from_ref(part),
+            Parts::Many(parts) => parts.as_slice(),
+        }
+    }
+}
+
 /// That all entries of a request were acknowledged: those that its parts show are the request's.
 /// Only a book gives one.
 pub struct Receipt {
     origin: Origin,
     request: Batch,
-    parts: Vec<AckedRange>,
+    parts: Parts,
 }
 
 // A drop of its own is proved once, and not at each place where a receipt goes.
@@ -86,6 +107,7 @@ impl Drop for Receipt {
 impl Model for Receipt {
     ghost use Rattle.std.specs.Prelude.{◌≡◌};
     ghost use Rattle.std.specs.List.{flat_map};
+    ghost use Rattle.fwd_book.specs.Parts.{parts_shown};
     ghost use Rattle.fwd_book.specs.Receipts.{Receipt, shown_by};
 
     ghost Value = { Receipt };
@@ -95,22 +117,22 @@ impl Model for Receipt {
       tag = r.request.tag;
       entries = r.request.entries;
       chunk = r.request.chunk;
-      parts = r.parts.items;
+      parts = parts_shown r.parts;
     } };
 
-    ghost invariant = { λ r. flat_map shown_by r.parts.items ≡ r.request.entries };
+    ghost invariant = { λ r. flat_map shown_by (parts_shown r.parts) ≡ r.request.entries };
 }
 
 impl Receipt {
     /// The receipt of a request by its parts. The only error is out of memory.
-    pub(crate) fn new(kept: &EnteredRequest, parts: Vec<AckedRange>) -> Result<Self, AllocError>
-        requires shown { flat_map shown_by parts.items ≡ kept.now.entries }
+    pub(crate) fn new(kept: &EnteredRequest, parts: Parts) -> Result<Self, AllocError>
+        requires shown { flat_map shown_by (parts_shown parts) ≡ kept.now.entries }
         ensures { IfOk result (λ receipt. receipt ≡ record {
           origin = kept.now.origin;
           tag = kept.now.tag;
           entries = kept.now.entries;
           chunk = kept.now.chunk;
-          parts = parts.items;
+          parts = parts_shown parts;
         }) }
     {
         Ok(Receipt {
@@ -154,6 +176,6 @@ impl Receipt {
     pub fn parts(&self) -> &[AckedRange]
         ensures { result.now ≡ self.now.parts }
     {
-        &self.parts
+        self.parts.as_slice()
     }
 }

@@ -47,7 +47,7 @@ use std::marker::Model;
 #[derive(Drop)]
 pub(crate) struct Requests {
     index: IndexMap<(u64, u64), usize>,
-    chains: ConnectionIndex,
+    by_connection: ConnectionIndex,
 }
 
 impl Model for Requests {
@@ -62,16 +62,17 @@ impl Model for Requests {
     ghost Value = { Held };
 
     ghost view = { λ r. record {
-      items = present (slots_by (held_at r.chains.kept) r.index.entries);
+      items = present (slots_by (held_at r.by_connection.kept) r.index.entries);
       room = min (spare r.index)
-          (min (r.chains.kept.capacity - slab_len r.chains.kept) (spare r.chains.ends));
+          (min (r.by_connection.kept.capacity - slab_len r.by_connection.kept)
+          (spare r.by_connection.ends));
       slots = length r.index.entries;
       places = spare r.index;
     } };
 
     ghost invariant = { λ r. IsDistinct is_key (keys_of r.index.entries)
-        × AreChained (link_at r.chains.kept) r.chains.ends.entries
-        (order_by (held_at r.chains.kept) r.index.entries) };
+        × AreChained (link_at r.by_connection.kept) r.by_connection.ends.entries
+        (order_by (held_at r.by_connection.kept) r.index.entries) };
 }
 
 /// The index leads from a key to a slot, behind all its other entries.
@@ -89,20 +90,20 @@ fn lead(index: &mut IndexMap<(u64, u64), usize>, key: (u64, u64), slot: usize)
 }
 
 /// The entries that lead to no request leave the index.
-fn drop_empty(index: &mut IndexMap<(u64, u64), usize>, chains: &ConnectionIndex)
+fn drop_empty(index: &mut IndexMap<(u64, u64), usize>, by_connection: &ConnectionIndex)
     ensures left { index.new.entries
-        ≡ filter (λ e. is_some (led_to (held_at chains.now.kept) e)) index.old.entries }
+        ≡ filter (λ e. is_some (led_to (held_at by_connection.now.kept) e)) index.old.entries }
     ensures unique { IsDistinct is_key (keys_of index.new.entries) }
     ensures room { spare index.old ≤ spare index.new }
 {
     index.retain(
         |key: &(u64, u64), slot: &mut usize| -> bool
             ensures { (result
-                ≡ is_some (led_to (held_at chains.entry.now.kept) (key.now, slot.old)))
+                ≡ is_some (led_to (held_at by_connection.entry.now.kept) (key.now, slot.old)))
                 × (slot.new ≡ slot.old) }
         {
             let (conn, request) = *key;
-            chains.get(*slot, Origin { conn, request }).is_some()
+            by_connection.get(*slot, Origin { conn, request }).is_some()
         },
     );
 }
@@ -114,7 +115,7 @@ impl Requests {
     {
         Requests {
             index: IndexMap::new(alloc),
-            chains: ConnectionIndex::new(alloc),
+            by_connection: ConnectionIndex::new(alloc),
         }
     }
 
@@ -123,7 +124,17 @@ impl Requests {
         ensures { option_copied result ≡ request_at self.now.items origin }
     {
         let slot = *self.index.get(&(origin.conn, origin.request))?;
-        self.chains.get(slot, origin)
+        self.by_connection.get(slot, origin)
+    }
+
+    /// The same, where the request may stand in this slot: the index is asked only if it does not.
+    pub(crate) fn get_at(&self, slot: usize, origin: Origin) -> Option<&EnteredRequest>
+        ensures { option_copied result ≡ request_at self.now.items origin }
+    {
+        match self.by_connection.get(slot, origin) {
+            None => self.get(origin),
+            Some(kept) => Some(kept),
+        }
     }
 
     /// The origins of a connection's requests, in the order in which they were entered.
@@ -131,7 +142,7 @@ impl Requests {
         ensures { IfOk result (λ origins. origins.items
             ≡ map (λ q. q.origin) (filter (is_of conn) self.now.items)) }
     {
-        self.chains.origins(alloc, conn, self.index.len())
+        self.by_connection.origins(alloc, conn, self.index.len())
     }
 
     /// The origins of a connection's requests whose entries are all acknowledged, in the order in
@@ -141,14 +152,15 @@ impl Requests {
         &self,
         alloc: Global,
         conn: u64,
-        numbers: &ChunkRefs,
+        chunk_refs: &ChunkRefs,
     ) -> Result<Vec<Origin>, AllocError>
         ensures due { IfOk result (λ due. due.items ≡ map (λ q. q.origin)
-            (filter (λ q. is_of conn q && are_found numbers.now.notes q) self.now.items)) }
-        ensures none { filter (λ q. is_of conn q && are_found numbers.now.notes q) self.now.items
+            (filter (λ q. is_of conn q && are_found chunk_refs.now.notes q) self.now.items)) }
+        ensures none { filter (λ q. is_of conn q && are_found chunk_refs.now.notes q) self.now.items
             ≡ [] → IsOk result }
     {
-        self.chains.due(alloc, conn, self.index.len(), numbers)
+        self.by_connection
+            .due(alloc, conn, self.index.len(), chunk_refs)
     }
 
     /// The first request of a connection leaves, if it has one.
@@ -159,8 +171,8 @@ impl Requests {
         ensures same { IfNone result (self.new.items ≡ self.old.items) }
         ensures room { self.old.room ≤ self.new.room }
     {
-        let slot = self.chains.first(conn)?;
-        self.chains.remove(slot)
+        let slot = self.by_connection.first(conn)?;
+        self.by_connection.remove(slot)
     }
 
     /// Makes room for one more request. No entry of the index comes, and where no more had a place,
@@ -177,7 +189,7 @@ impl Requests {
             self.index.reserve(self.index.len())?;
         }
         self.index.reserve(1)?;
-        self.chains.reserve()
+        self.by_connection.reserve()
     }
 
     /// The entries that lead to no request leave the index: it has as many as there are requests.
@@ -187,25 +199,26 @@ impl Requests {
         ensures slots { self.new.slots ≡ length self.new.items }
         ensures fewer { self.new.slots ≤ self.old.slots }
     {
-        drop_empty(&mut self.index, &self.chains);
+        drop_empty(&mut self.index, &self.by_connection);
     }
 
     /// There are less than 2^63 requests.
     pub(crate) fn are_few(&self)
         ensures { length self.now.items < 2 ^ 63 }
     {
-        let _len = self.index.len();
+        let _len = self.index.len(); // for the proof
     }
 
-    /// A request comes, into room that was made for it.
-    pub(crate) fn push(&mut self, kept: EnteredRequest)
+    /// A request comes, into room that was made for it. Answers its slot, where it stays.
+    pub(crate) fn push(&mut self, kept: EnteredRequest) -> usize
         requires room { 0 < self.old.room }
         requires fresh { request_at self.old.items kept.origin ≡ None }
         ensures { self.new.items ≡ self.old.items ++ kept ∷ [] }
     {
         let origin = kept.origin();
-        let slot = self.chains.push(kept);
+        let slot = self.by_connection.push(kept);
         lead(&mut self.index, (origin.conn, origin.request), slot);
+        slot
     }
 
     /// The request of an origin leaves, if it is there.
@@ -216,7 +229,20 @@ impl Requests {
         ensures room { self.old.room ≤ self.new.room }
     {
         let slot = *self.index.get(&(origin.conn, origin.request))?;
-        self.chains.get(slot, origin)?;
-        self.chains.remove(slot)
+        self.by_connection.get(slot, origin)?;
+        self.by_connection.remove(slot)
+    }
+
+    /// The same, where the request may stand in this slot: the index is asked only if it does not.
+    pub(crate) fn take_at(&mut self, slot: usize, origin: Origin) -> Option<EnteredRequest>
+        ensures taken { result ≡ request_at self.old.items origin }
+        ensures left { self.new.items
+            ≡ filter (λ q. not (is_origin origin q.origin)) self.old.items }
+        ensures room { self.old.room ≤ self.new.room }
+    {
+        let Some(_) = self.by_connection.get(slot, origin) else {
+            return self.take(origin);
+        };
+        self.by_connection.remove(slot)
     }
 }

@@ -6,7 +6,7 @@ use Rattle.fwd_modes.specs.Requests.{Request}
 use Rattle.fwd_chunks.specs.declared.flush.FlushKind.TheVariants.{Due, All}
 use Rattle.fwd_chunks.specs.declared.fault.AdmitError.TheVariants.{Full, NumbersSpent}
 use Rattle.fwd_chunks.specs.declared.chunk_state.ChunkState.TheVariants.{Closed}
-use Rattle.fwd_retry.specs.Waits.{wait_after}
+use Rattle.fwd_base.specs.Waits.{wait_after}
 use Rattle.fwd_chunks.specs.Cells.{contents}
 use Rattle.fwd_chunks.specs.History.{BufferSetting, BufferHistory, opening, adds, enters, refusal, spans_of, closing, flushes, given, looks, takes, settles, counts}
 use Rattle.fwd_chunks.specs.Events.{Enter, Flush, Take, Free, history_after}

@@ -16,8 +16,8 @@ use Rattle.fwd_chunks.specs.declared.chunk_state.ChunkState.TheVariants.{Closed,
 use Rattle.fwd_chunks.specs.Cells.{Cell, Carry, size_of, entries_of, cells_at, contents, first_tag, first_moment, has_number, numbers_of, has_entry, greatest, is_carried, without, losses_of}
 use Rattle.fwd_chunks.specs.History.{BufferHistory, next_number, has_room, joins, adds, adds_all, looks, enters, unsettled, is_full, is_spent, refusal, before_runs, runs_after, spans_of, is_old, closes, closing, flushes, is_over, is_free, given, carry_more, takes, carried_chunk_of, settles, frees, counts}
 use Rattle.fwd_chunks.specs.Live.{stage_by, stage_of, live_chunk, live_buffer, is_open, is_closed, is_taken, staged, changed, is_at, held_in, bytes_in, is_open_of, may_take, first_chunk, live_adds_to, live_adds, live_adds_all, live_looks, live_enters, live_is_full, live_is_spent, live_refusal, live_place, live_runs, live_spans, live_closes, live_closing, live_flushes, live_is_free, live_given, live_carries_more, live_takes, live_carried_chunk, live_carried, live_settles, live_frees, live_counts}
-use Rattle.fwd_retry.specs.Tallies.{tally_of, live_is_over, tally_more}
-use Rattle.fwd_retry.proofs.Doublings.{wait_settles}
+use Rattle.fwd_base.specs.Tallies.{tally_of, live_is_over, tally_more}
+use Rattle.fwd_base.proofs.Doublings.{wait_settles}
 use Rattle.fwd_chunks.proofs.Numbers.{true_false, not_from, eq_same, filter-within, filter-map, filter-same, find-map, find-same, find_only, find_no, map-map, map-same, has_number-push, has_number-filter, AreDistinct, least_first, sum_over, sum_over-same}
 use Rattle.fwd_chunks.proofs.CellLemmas.{filter-push_in, filter-push_out, any-false, any-find, last_number-entry, has_cell, numbers-has, numbers-distinct, numbers-push, numbers-filter, cells_at-here, cells_at-elsewhere, cells_at-none, cells_at-some, cells_at-unsettled, first_tag-push, first_moment-push, entries_of-push, first_tag-entry, greatest-push, greatest-same, greatest-next, weigh, weigh_numbers, weigh-length, weigh-size, carry_at, carry_at-without_same, carry_at-without_other, carry_at-push_other, carry_at-push_same, losses-here, losses-elsewhere}
 use Rattle.fwd_chunks.proofs.Sane.{IsSane, Joins, Begins, joins_or_begins, cell_at, adds_at, adds-at, IsFor, joins-for, next-for, next-fresh, adds-sane, looks-sane, Loose, free_parts, given-free}

@@ -4,9 +4,9 @@ use Rattle.std.specs.Prelude.{find, ◌&&◌, nat_le, slice_get}
 use Rattle.std.specs.List.{AllByRecursion}
 use Rattle.std.proofs.lemmas.Bool.{and_parts}
 use Rattle.std.proofs.lemmas.Bool.Decides.{nat_tests}
-use Rattle.fwd_retry.specs.Waits.{wait_after}
-use Rattle.fwd_retry.specs.Tallies.{live_is_over}
-use Rattle.fwd_retry.specs.declared.losses.Losses.{Losses}
+use Rattle.fwd_base.specs.Waits.{wait_after}
+use Rattle.fwd_base.specs.Tallies.{live_is_over}
+use Rattle.fwd_base.specs.declared.losses.Losses.{Losses}
 use Rattle.fwd_chunks.specs.declared.chunk.Chunk.{Chunk}
 use Rattle.fwd_chunks.specs.declared.chunk_state.ChunkState.{ChunkState}
 use Rattle.fwd_chunks.specs.declared.chunk_state.ChunkState.TheVariants.{Open, Closed, Taken}

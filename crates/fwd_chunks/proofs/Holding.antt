@@ -15,7 +15,7 @@ use Rattle.fwd_chunks.specs.declared.chunk_state.ChunkState.TheVariants.{Closed,
 use Rattle.fwd_chunks.specs.Cells.{size_of}
 use Rattle.fwd_chunks.specs.History.{CarriedChunk, before_runs}
 use Rattle.fwd_chunks.specs.Live.{LiveBuffer, is_open, staged, is_at, live_next_number, is_open_of, may_take, first_chunk, live_adds_to, live_adds, live_adds_all, live_looks, live_enters, live_place, live_runs, live_spans, live_closes, live_flushes, live_given, live_carries_more, live_takes, live_carried_chunk, live_carried, IsCarried, is_taken, live_frees, live_settles}
-use Rattle.fwd_retry.specs.Tallies.{tally_more}
+use Rattle.fwd_base.specs.Tallies.{tally_more}
 use Rattle.fwd_chunks.specs.Soundness.{IsBefore, AreInOrder, IsSound}
 use Rattle.fwd_chunks.specs.Spans.{run_in, AreRising, AreCutBy, IsHeld, AreHeld, IsGone}
 use Rattle.fwd_chunks.proofs.Numbers.{true_false, not_from, eq_same}

@@ -11,7 +11,7 @@ use Rattle.slab.specs.Slab.{Slab, get, slab_len, Updates, with_value}
 use Rattle.slab.proofs.SlabLemmas.{Updates-with_value}
 use Rattle.fwd_chunks.specs.declared.chunk.Chunk.{Chunk}
 use Rattle.fwd_chunks.specs.declared.chunk_slab.ChunkPlace.{ChunkPlace}
-use Rattle.fwd_chunks.specs.declared.chunk_slab.Kept.{Kept}
+use Rattle.fwd_chunks.specs.declared.chunk_slab.KeptChunk.{KeptChunk}
 use Rattle.fwd_chunks.specs.Live.{is_at}
 use Rattle.fwd_chunks.specs.Slots.{Slot, slot_of, chunk_in, revised, present, is_full, is_slot, IsLower, IsOwn, NumbersRise}
 use Rattle.fwd_chunks.specs.Slabs.{SlabShown, StandsAt, chunk_of, numbered, slot_by, slots_by, place_by, AreLinked, IsThere, IsSlab}
@@ -28,7 +28,7 @@ get-map f [] i = refl
 get-map f (x ∷ xs) zero = refl
 get-map f (x ∷ xs) (suc i) = get-map f xs i
 
-pub slots-at : (kept : Slab Kept) (places : List ChunkPlace) (i : ℕ) (p : ChunkPlace)
+pub slots-at : (kept : Slab KeptChunk) (places : List ChunkPlace) (i : ℕ) (p : ChunkPlace)
     → slice_get places i ≡ Some p → slice_get (slots_by kept places) i ≡ Some (slot_by kept p)
 slots-at kept places i p e = get-map (slot_by kept) places i ∙ ap (option_map (slot_by kept)) e
 
@@ -52,14 +52,14 @@ number-slot xs i n e = by (slice_get xs i) refl e
     by (Some s) f g = (s, f, same_Some _ _ g)
 
 -- the slot of a chunk that lies at a key
-pub linked-at : (places : List ChunkPlace) (kept : Slab Kept) → AreLinked places kept → (key : ℕ) (k : Kept)
+pub linked-at : (places : List ChunkPlace) (kept : Slab KeptChunk) → AreLinked places kept → (key : ℕ) (k : KeptChunk)
     → get kept key ≡ Some k → slice_get (slots_by kept places) k.place ≡ Some (slot_of k.chunk)
 linked-at places kept linked key k e =
     slots-at kept places k.place (place_by key k) (linked key k e)
     ∙ ap (λ o. Some (record { number = k.chunk.number; chunk = o })) (ap (λ o. numbered k.chunk.number (chunk_of o)) e ∙ numbered-self k.chunk)
 
-pub linked-place : (places : List ChunkPlace) (kept : Slab Kept) → AreLinked places kept
-    → NumbersRise (slots_by kept places) → (n key : ℕ) (k : Kept) → get kept key ≡ Some k
+pub linked-place : (places : List ChunkPlace) (kept : Slab KeptChunk) → AreLinked places kept
+    → NumbersRise (slots_by kept places) → (n key : ℕ) (k : KeptChunk) → get kept key ≡ Some k
     → k.chunk.number ≡ n → position (is_slot n) (slots_by kept places) ≡ Some k.place
 linked-place places kept linked rise n key k e same =
     number-place (slots_by kept places) n k.place (slot_of k.chunk) rise (linked-at places kept linked key k e) same
@@ -67,16 +67,16 @@ linked-place places kept linked rise n key k e same =
 -- ---- a write at a key
 
 -- a key says nothing of other numbers
-abbrev pub IsOf : ℕ → Option Kept → Type 0
+abbrev pub IsOf : ℕ → Option KeptChunk → Type 0
 IsOf n o = (m : ℕ) → m ≢ n → numbered m (chunk_of o) ≡ None
 
 pub none-of : (n : ℕ) → IsOf n None
 none-of n m apart = refl
 
-pub some-of : (n : ℕ) (k : Kept) → k.chunk.number ≡ n → IsOf n (Some k)
+pub some-of : (n : ℕ) (k : KeptChunk) → k.chunk.number ≡ n → IsOf n (Some k)
 some-of n k same m apart = numbered-other m k.chunk (λ e. apart (sym e ∙ same))
 
-module _ (old new : Slab Kept) (key n : ℕ) (slot : Option Kept) (updates : Updates old new key slot) (was : IsOf n (get old key)) (is : IsOf n slot) where
+module _ (old new : Slab KeptChunk) (key n : ℕ) (slot : Option KeptChunk) (updates : Updates old new key slot) (was : IsOf n (get old key)) (is : IsOf n slot) where
   pub slot-other : (p : ChunkPlace) → p.number ≢ n → slot_by new p ≡ slot_by old p
   slot-other p apart = ap (λ o. record { number = p.number; chunk = o }) (elim (cases_eq p.key key) [
     | inl same ↦
@@ -182,8 +182,8 @@ len-set (o ∷ slots) (suc key) x y e =
     omega (arith, len-set slots key x y e, sum_by-cons (λ p. cond (is_some p) 1 0) o slots, sum_by-cons (λ p. cond (is_some p) 1 0) o (set slots key (Some y)))
 
 -- a chunk changes that lies at a key
-module _ (places : List ChunkPlace) (kept : Slab Kept) (own : IsSlab places kept) (rise : NumbersRise (slots_by kept places)) (i key : ℕ) (stands : StandsAt places kept i key) where
-  abbrev k : Kept
+module _ (places : List ChunkPlace) (kept : Slab KeptChunk) (own : IsSlab places kept) (rise : NumbersRise (slots_by kept places)) (i key : ℕ) (stands : StandsAt places kept i key) where
+  abbrev k : KeptChunk
   k = stands.0
 
   abbrev p : ChunkPlace
@@ -202,7 +202,7 @@ module _ (places : List ChunkPlace) (kept : Slab Kept) (own : IsSlab places kept
       ∙ numbered-self k.chunk
 
   module _ (f : Chunk → Chunk) (d : Chunk) (is : d ≡ f k.chunk) (numbers : (f k.chunk).number ≡ k.chunk.number) where
-    abbrev next : Kept
+    abbrev next : KeptChunk
     next = record { chunk = d; place = k.place }
 
     updates : Updates kept (with_value kept key next) key (Some next)
@@ -240,7 +240,7 @@ module _ (places : List ChunkPlace) (kept : Slab Kept) (own : IsSlab places kept
 -- ---- what is shown
 
 -- what places and the slab show
-abbrev pub seen : List ChunkPlace → ℕ → Slab Kept → SlabShown
+abbrev pub seen : List ChunkPlace → ℕ → Slab KeptChunk → SlabShown
 seen places cap kept = record {
   slots = slots_by kept places;
   cap = cap;
@@ -248,7 +248,7 @@ seen places cap kept = record {
 }
 
 -- no chunk stands at the place
-module _ (places : List ChunkPlace) (kept : Slab Kept) (i : ℕ) where
+module _ (places : List ChunkPlace) (kept : Slab KeptChunk) (i : ℕ) where
   pub no-place : slice_get places i ≡ None → chunk_in (slice_get (slots_by kept places) i) ≡ None
   no-place e = ap chunk_in (get-map (slot_by kept) places i ∙ ap (option_map (slot_by kept)) e)
 
@@ -256,7 +256,7 @@ module _ (places : List ChunkPlace) (kept : Slab Kept) (i : ℕ) where
     pub no-key : get kept p.key ≡ None → chunk_in (slice_get (slots_by kept places) i) ≡ None
     no-key e = ap chunk_in (slots-at kept places i p at) ∙ ap (λ o. numbered p.number (chunk_of o)) e
 
-    pub no-number : (k : Kept) → get kept p.key ≡ Some k → k.chunk.number ≢ p.number
+    pub no-number : (k : KeptChunk) → get kept p.key ≡ Some k → k.chunk.number ≢ p.number
         → chunk_in (slice_get (slots_by kept places) i) ≡ None
     no-number k e apart =
         ap chunk_in (slots-at kept places i p at)
@@ -264,20 +264,20 @@ module _ (places : List ChunkPlace) (kept : Slab Kept) (i : ℕ) where
         ∙ numbered-other p.number k.chunk apart
 
 -- the chunk at the place's key is the place's
-pub stands-at : (places : List ChunkPlace) (kept : Slab Kept) (i : ℕ) (p : ChunkPlace) (k : Kept)
+pub stands-at : (places : List ChunkPlace) (kept : Slab KeptChunk) (i : ℕ) (p : ChunkPlace) (k : KeptChunk)
     → slice_get places i ≡ Some p → get kept p.key ≡ Some k → k.chunk.number ≡ p.number
     → StandsAt places kept i p.key
 stands-at places kept i p k at lies same = (k, lies, at ∙ (λ j. Some (record { number = sym same j; key = p.key })))
 
 -- so nothing changes
-pub still-shown : (f : Chunk → Chunk) (places : List ChunkPlace) (cap : ℕ) (kept : Slab Kept) (i : ℕ)
+pub still-shown : (f : Chunk → Chunk) (places : List ChunkPlace) (cap : ℕ) (kept : Slab KeptChunk) (i : ℕ)
     → chunk_in (slice_get (slots_by kept places) i) ≡ None
     → seen places cap kept
     ≡ record (seen places cap kept) { slots = revised i (option_map f) (slots_by kept places) }
 still-shown f places cap kept i none = λ j. record (seen places cap kept) { slots = sym (revised-none f (slots_by kept places) i none) j }
 
 -- a chunk that changes is shown so
-pub put-shown : (places : List ChunkPlace) (cap : ℕ) (kept : Slab Kept) → IsSlab places kept
+pub put-shown : (places : List ChunkPlace) (cap : ℕ) (kept : Slab KeptChunk) → IsSlab places kept
     → NumbersRise (slots_by kept places) → (i key : ℕ)
     → (stands : StandsAt places kept i key) → (f : Chunk → Chunk) → (d : Chunk)
     → d ≡ f stands.0.chunk → (f stands.0.chunk).number ≡ stands.0.chunk.number
@@ -290,15 +290,15 @@ put-shown places cap kept own rise i key stands f d is numbers = λ j. record {
 }
 
 -- what is read at the key is what stands there
-abbrev pub stands-with : (places : List ChunkPlace) (kept : Slab Kept) (i key : ℕ) → StandsAt places kept i key
-    → (k : Kept) → get kept key ≡ Some k → StandsAt places kept i key
+abbrev pub stands-with : (places : List ChunkPlace) (kept : Slab KeptChunk) (i key : ℕ) → StandsAt places kept i key
+    → (k : KeptChunk) → get kept key ≡ Some k → StandsAt places kept i key
 stands-with places kept i key stands k lies =
     (k, lies, stands.2 ∙ (λ j. Some (place_by key (same_Some stands.0 k (sym stands.1 ∙ lies) j))))
 
 -- ---- by number
 
 -- each chunk has its slot's number
-pub own-slots : (kept : Slab Kept) (places : List ChunkPlace) → AllByRecursion IsOwn (slots_by kept places)
+pub own-slots : (kept : Slab KeptChunk) (places : List ChunkPlace) → AllByRecursion IsOwn (slots_by kept places)
 own-slots kept [] = tt
 own-slots kept (p ∷ places) = (by (chunk_of (get kept p.key)), own-slots kept places)
   where
@@ -313,8 +313,8 @@ own-slots kept (p ∷ places) = (by (chunk_of (get kept p.key)), own-slots kept 
         at false e = tt
 
 -- the chunk that lies at a key is its number's
-pub linked-found : (places : List ChunkPlace) (kept : Slab Kept) → AreLinked places kept
-    → NumbersRise (slots_by kept places) → (n key : ℕ) (k : Kept) → get kept key ≡ Some k
+pub linked-found : (places : List ChunkPlace) (kept : Slab KeptChunk) → AreLinked places kept
+    → NumbersRise (slots_by kept places) → (n key : ℕ) (k : KeptChunk) → get kept key ≡ Some k
     → k.chunk.number ≡ n → Some k.chunk ≡ find (is_at n) (present (slots_by kept places))
 linked-found places kept linked rise n key k e same =
     sym (find-slot (slots_by kept places) k.place (slot_of k.chunk) rise (own-slots kept places) (linked-at places kept linked key k e))
@@ -322,7 +322,7 @@ linked-found places kept linked rise n key k e same =
 
 -- ---- a chunk that leaves
 
-module _ (places : List ChunkPlace) (kept : Slab Kept) (own : IsSlab places kept) (rise : NumbersRise (slots_by kept places)) (i key : ℕ) (stands : StandsAt places kept i key) (after : Slab Kept) (updates : Updates kept after key None) (len : slab_len after + 1 ≡ slab_len kept) where
+module _ (places : List ChunkPlace) (kept : Slab KeptChunk) (own : IsSlab places kept) (rise : NumbersRise (slots_by kept places)) (i key : ℕ) (stands : StandsAt places kept i key) (after : Slab KeptChunk) (updates : Updates kept after key None) (len : slab_len after + 1 ≡ slab_len kept) where
   pub taken-slots : slots_by after places ≡ revised i (λ o. None) (slots_by kept places)
   taken-slots =
       slots-written kept after key stands.0.chunk.number None updates
@@ -350,7 +350,7 @@ get-behind : {X : Type 0} (xs : List X) (x : X) → slice_get (xs ++ x ∷ []) (
 get-behind [] x = refl
 get-behind (z ∷ xs) x = get-behind xs x
 
-module _ (places : List ChunkPlace) (kept : Slab Kept) (own : IsSlab places kept) (c : Chunk) (key : ℕ) (after : Slab Kept) (vacant : get kept key ≡ None) (updates : Updates kept after key (Some (record { chunk = c; place = length places }))) (len : slab_len after ≡ slab_len kept + 1) (above : AllByRecursion (λ s. s.number < c.number) (slots_by kept places)) where
+module _ (places : List ChunkPlace) (kept : Slab KeptChunk) (own : IsSlab places kept) (c : Chunk) (key : ℕ) (after : Slab KeptChunk) (vacant : get kept key ≡ None) (updates : Updates kept after key (Some (record { chunk = c; place = length places }))) (len : slab_len after ≡ slab_len kept + 1) (above : AllByRecursion (λ s. s.number < c.number) (slots_by kept places)) where
   abbrev fresh : ChunkPlace
   fresh = record { number = c.number; key = key }
 
@@ -386,36 +386,36 @@ all-at P (y ∷ xs) zero x all e = subst P (same_Some _ _ e) all.0
 all-at P (y ∷ xs) (suc i) x all e = all-at P xs i x all.1 e
 
 -- a full slot's chunk lies at its key
-full-there : (kept : Slab Kept) (p : ChunkPlace) → is_full (slot_by kept p) ≡ true
-    → (k : Kept) × (get kept p.key ≡ Some k) × (k.chunk.number ≡ p.number)
+full-there : (kept : Slab KeptChunk) (p : ChunkPlace) → is_full (slot_by kept p) ≡ true
+    → (k : KeptChunk) × (get kept p.key ≡ Some k) × (k.chunk.number ≡ p.number)
 full-there kept p = by (get kept p.key) refl
   where
-    by : (o : Option Kept) → get kept p.key ≡ o → is_some (numbered p.number (chunk_of o)) ≡ true
-        → (k : Kept) × (get kept p.key ≡ Some k) × (k.chunk.number ≡ p.number)
+    by : (o : Option KeptChunk) → get kept p.key ≡ o → is_some (numbered p.number (chunk_of o)) ≡ true
+        → (k : KeptChunk) × (get kept p.key ≡ Some k) × (k.chunk.number ≡ p.number)
     by None e full = absurd (true_false false full refl)
     by (Some k) e full = at (k.chunk.number == p.number) refl full
       where
         at : (b : Bool) → (k.chunk.number == p.number) ≡ b
             → is_some (cond b (Some k.chunk) None) ≡ true
-            → (l : Kept) × (get kept p.key ≡ Some l) × (l.chunk.number ≡ p.number)
+            → (l : KeptChunk) × (get kept p.key ≡ Some l) × (l.chunk.number ≡ p.number)
         at true f full = (k, e, eqb-true k.chunk.number p.number f)
         at false f full = absurd (true_false false full refl)
 
 -- each chunk knows its place, or has one from this on
-abbrev pub AreLinking : ℕ → List ChunkPlace → Slab Kept → Type 0
+abbrev pub AreLinking : ℕ → List ChunkPlace → Slab KeptChunk → Type 0
 AreLinking from places kept =
-    (key : ℕ) (k : Kept) → get kept key ≡ Some k
+    (key : ℕ) (k : KeptChunk) → get kept key ≡ Some k
     → (slice_get places k.place ≡ Some (place_by key k))
     ⊎ ((i : ℕ) × (from ≤ i) × (slice_get places i ≡ Some (place_by key k)))
 
 -- what holds of the slab while chunks are told their places
-pub record Linking (from : ℕ) (places : List ChunkPlace) (old now : Slab Kept) : Type 0 where
+pub record Linking (from : ℕ) (places : List ChunkPlace) (old now : Slab KeptChunk) : Type 0 where
   pub linking : AreLinking from places now
   pub chunks : (key : ℕ) → chunk_of (get now key) ≡ chunk_of (get old key)
   pub count : slab_len now ≡ slab_len old
   pub capacity : now.capacity ≡ old.capacity
 
-pub linking-start : (places : List ChunkPlace) (kept : Slab Kept) → IsThere places kept
+pub linking-start : (places : List ChunkPlace) (kept : Slab KeptChunk) → IsThere places kept
     → Linking 0 places kept kept
 linking-start places kept there = record {
   linking = λ key k e. (let at = there key k e in inr (at.0, omega arith, at.1));
@@ -424,7 +424,7 @@ linking-start places kept there = record {
   capacity = refl;
 }
 
-pub linking-end : (from : ℕ) (places : List ChunkPlace) (old now : Slab Kept) → length places ≤ from
+pub linking-end : (from : ℕ) (places : List ChunkPlace) (old now : Slab KeptChunk) → length places ≤ from
     → Linking from places old now → AreLinked places now
 linking-end from places old now past h = λ key k e. elim (h.linking key k e) [
   | inl done ↦ done
@@ -432,16 +432,16 @@ linking-end from places old now past h = λ key k e. elim (h.linking key k e) [
 ]
 
 -- the chunk at a key is told its place
-module _ (i : ℕ) (places : List ChunkPlace) (old now : Slab Kept) (h : Linking i places old now) (full : AllByRecursion (λ p. is_full (slot_by old p) ≡ true) places) (p : ChunkPlace) (at : slice_get places i ≡ Some p) where
-  pub linking-there : (k : Kept) × (get now p.key ≡ Some k) × (k.chunk.number ≡ p.number)
+module _ (i : ℕ) (places : List ChunkPlace) (old now : Slab KeptChunk) (h : Linking i places old now) (full : AllByRecursion (λ p. is_full (slot_by old p) ≡ true) places) (p : ChunkPlace) (at : slice_get places i ≡ Some p) where
+  pub linking-there : (k : KeptChunk) × (get now p.key ≡ Some k) × (k.chunk.number ≡ p.number)
   linking-there =
       full-there now p (ap (λ o. is_some (numbered p.number o)) (h.chunks p.key) ∙ all-at (λ q. is_full (slot_by old q) ≡ true) places i p full at)
 
-  module _ (k : Kept) (lies : get now p.key ≡ Some k) where
-    abbrev told : Kept
+  module _ (k : KeptChunk) (lies : get now p.key ≡ Some k) where
+    abbrev told : KeptChunk
     told = record { chunk = k.chunk; place = i }
 
-    abbrev telling : Slab Kept
+    abbrev telling : Slab KeptChunk
     telling = with_value now p.key told
 
     told-updates : Updates now telling p.key (Some told)
@@ -479,7 +479,7 @@ module _ (i : ℕ) (places : List ChunkPlace) (old now : Slab Kept) (h : Linking
 -- ---- the empty slots leave
 
 -- whether a place's chunk is there
-abbrev pub is_kept : Slab Kept → ChunkPlace → Bool
+abbrev pub is_kept : Slab KeptChunk → ChunkPlace → Bool
 is_kept kept p = is_full (slot_by kept p)
 
 all-kept : {X : Type 0} (test : X → Bool) (xs : List X) → AllByRecursion (λ x. test x ≡ true) (filter test xs)
@@ -515,12 +515,12 @@ map-filter f test (x ∷ xs) = by (test (f x)) (map-filter f test xs)
     by true rest = ap (λ l. f x ∷ l) rest
     by false rest = rest
 
-same-chunks : (old new : Slab Kept) → ((key : ℕ) → chunk_of (get new key) ≡ chunk_of (get old key))
+same-chunks : (old new : Slab KeptChunk) → ((key : ℕ) → chunk_of (get new key) ≡ chunk_of (get old key))
     → (places : List ChunkPlace) → slots_by new places ≡ slots_by old places
 same-chunks old new same [] = refl
 same-chunks old new same (p ∷ places) = λ j. record { number = p.number; chunk = numbered p.number (same p.key j) } ∷ same-chunks old new same places j
 
-module _ (places : List ChunkPlace) (kept : Slab Kept) (own : IsSlab places kept) where
+module _ (places : List ChunkPlace) (kept : Slab KeptChunk) (own : IsSlab places kept) where
   pub kept-full : AllByRecursion (λ p. is_kept kept p ≡ true) (filter (is_kept kept) places)
   kept-full = all-kept (is_kept kept) places
 
@@ -529,7 +529,7 @@ module _ (places : List ChunkPlace) (kept : Slab Kept) (own : IsSlab places kept
       kept-at (is_kept kept) places k.place (place_by key k) (own.linked key k e)
       (ap (λ o. is_some (numbered k.chunk.number (chunk_of o))) e ∙ ap is_some (numbered-self k.chunk))
 
-  module _ (after : Slab Kept) (chunks : (key : ℕ) → chunk_of (get after key) ≡ chunk_of (get kept key)) where
+  module _ (after : Slab KeptChunk) (chunks : (key : ℕ) → chunk_of (get after key) ≡ chunk_of (get kept key)) where
     pub kept-slots : slots_by after (filter (is_kept kept) places) ≡ filter is_full (slots_by kept places)
     kept-slots =
         same-chunks kept after chunks (filter (is_kept kept) places)

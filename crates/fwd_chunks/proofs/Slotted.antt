@@ -5,7 +5,7 @@ use Rattle.std.specs.List.{AllByRecursion}
 use Rattle.std.specs.Prelude.{IsSomeAnd, min, option_map, filter, find, not, is_some, slice_get, option_to_list, position, replicate}
 use Rattle.std.proofs.lemmas.List.{length-set, length-append, length-map, length-replicate}
 use Rattle.fwd_chunks.specs.declared.chunk.Chunk.{Chunk}
-use Rattle.fwd_retry.specs.declared.retry.Retry.{Retry}
+use Rattle.fwd_base.specs.declared.retry.Retry.{Retry}
 use Rattle.fwd_chunks.specs.Slots.{Slot}
 use Rattle.fwd_chunks.specs.Cells.{number_after}
 use Rattle.fwd_chunks.specs.Live.{is_at, changed}

@@ -7,14 +7,14 @@ use Rattle.std.proofs.lemmas.List.{append-nil, take_more, map-append}
 use Rattle.std.proofs.lemmas.Bool.{ltb-false, leb-true, le-leb}
 use Rattle.fwd_chunks.specs.declared.chunk.Chunk.{Chunk}
 use Rattle.fwd_chunks.specs.Slots.{Slot}
-use Rattle.fwd_retry.specs.declared.losses.Losses.{Losses}
-use Rattle.fwd_retry.specs.declared.retry.Retry.{Retry}
-use Rattle.fwd_retry.specs.Waits.{wait_after}
+use Rattle.fwd_base.specs.declared.losses.Losses.{Losses}
+use Rattle.fwd_base.specs.declared.retry.Retry.{Retry}
+use Rattle.fwd_base.specs.Waits.{wait_after}
 use Rattle.fwd_chunks.specs.Live.{is_at, is_open, is_closed, changed}
-use Rattle.fwd_retry.specs.Tallies.{live_is_over}
+use Rattle.fwd_base.specs.Tallies.{live_is_over}
 use Rattle.fwd_chunks.specs.MinTrees.{is_within}
 use Rattle.fwd_chunks.specs.Slots.{chunk_in, present, is_slot, is_full, ready_key, due_key, began_by, key_by, IsNone, AreKeys, padded, IsLower, NumbersRise, IsOwn, IsTimed}
-use Rattle.fwd_retry.specs.Tallies.{end_of_wait}
+use Rattle.fwd_base.specs.Tallies.{end_of_wait}
 use Rattle.fwd_chunks.proofs.Numbers.{not_from, true_false, eq_same}
 use Rattle.fwd_chunks.proofs.Sounding.{all-filter}
 use Rattle.fwd_chunks.proofs.Places.{none_some, get-or-at, get-past, place-none, place-is, place-past}

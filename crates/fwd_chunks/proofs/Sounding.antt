@@ -14,7 +14,7 @@ use Rattle.fwd_chunks.specs.Cells.{size_of}
 use Rattle.fwd_chunks.specs.History.{BufferSetting}
 use Rattle.fwd_chunks.specs.Events.{BufferEvent, Enter, Flush, Take, Settle, Free, unless_refused}
 use Rattle.fwd_chunks.specs.Live.{LiveBuffer, live_opening, is_open, staged, changed, is_at, held_in, bytes_in, live_next_number, is_open_of, may_take, first_chunk, live_adds_to, live_adds, live_adds_all, live_looks, live_enters, live_is_full, live_is_spent, live_refusal, live_closes, live_flushes, live_given, live_carries_more, live_takes, live_carried, live_settles, live_frees, live_next}
-use Rattle.fwd_retry.specs.Tallies.{tally_more}
+use Rattle.fwd_base.specs.Tallies.{tally_more}
 use Rattle.fwd_chunks.specs.Soundness.{IsBefore, AreInOrder, IsWithin, IsSound}
 use Rattle.fwd_chunks.proofs.Numbers.{not_from, eq_same}
 use Rattle.fwd_chunks.proofs.CellLemmas.{size_of-push}

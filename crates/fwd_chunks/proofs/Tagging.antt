@@ -5,6 +5,8 @@ use Rattle.std.specs.List.{AllByRecursion, IsDistinct}
 use Rattle.std.proofs.lemmas.Option.{same_Some}
 use Rattle.std.specs.Str.{bytes_eq}
 use Rattle.std.specs.HashMap.{HashMap, UpdatesBy}
+use Rattle.std.specs.Cmp.{IsEquivalence}
+use Rattle.std.proofs.lemmas.Cmp.{nat_list_eq_equiv}
 use Rattle.std.specs.Map.{lookup, IsKeyTest, AreApart, KeepsOthers}
 use Rattle.std.proofs.lemmas.Slice.Eq.{bytes_eq-Decides}
 use Rattle.fwd_chunks.specs.declared.tag_entry.TagEntry.{TagEntry}
@@ -51,6 +53,23 @@ seen-updates m n w items bs h t = tag_entry-seen n.entries items t ∙ by (bytes
         (λ x y f. ap (λ l. bytes_eq l (items y)) (same_bytes t (items x) f))
         (λ k f. not_from (bytes_eq t (items k)) (λ g. true_false (bytes_eq bs t) (ap (bytes_eq bs) (same_bytes t (items k) g) ∙ f) e))
         ∙ sym (tag_entry-seen m.entries items t)
+
+-- what is kept for the tag of a key that is there
+pub named-entry : {K : Type 0} (es : List (K × TagEntry)) (items : K → List ℕ) (name : K)
+    (tag : List ℕ) (e : TagEntry) → items name ≡ tag
+    → lookup (λ k. bytes_eq (items name) (items k)) es ≡ Some e
+    → tag_entry tag (seen es items) ≡ Some e
+named-entry es items name tag e same found =
+    tag_entry-seen es items tag ∙ ap (λ bs. lookup (λ k. bytes_eq bs (items k)) es) (sym same) ∙ found
+
+-- keys are compared by their bytes
+pub by_bytes : {K : Type 0} (items : K → List ℕ)
+    → IsEquivalence (λ (x y : K). bytes_eq (items x) (items y))
+by_bytes items = record {
+  refl = λ x. nat_list_eq_equiv.refl (items x);
+  symm = λ x y. nat_list_eq_equiv.symm (items x) (items y);
+  congr = λ x y z. nat_list_eq_equiv.congr (items x) (items y) (items z);
+}
 
 -- ---- entries by place
 

@@ -13,7 +13,7 @@ use Rattle.fwd_chunks.specs.declared.chunk_state.ChunkState.TheVariants.{Open, C
 use Rattle.fwd_chunks.specs.Cells.{size_of}
 use Rattle.fwd_chunks.specs.History.{CarriedChunk}
 use Rattle.fwd_chunks.specs.Live.{LiveBuffer, is_open, is_closed, is_taken, staged, changed, is_at, is_open_of, may_take, first_chunk, live_adds_to, live_adds, live_adds_all, live_looks, live_enters, is_due, live_closes, live_flushes, live_is_free, live_given, live_carries_more, live_takes, live_carried_chunk, live_carried, live_settles, live_frees}
-use Rattle.fwd_retry.specs.Tallies.{live_is_over, tally_more}
+use Rattle.fwd_base.specs.Tallies.{live_is_over, tally_more}
 use Rattle.fwd_chunks.specs.Soundness.{IsBefore, AreInOrder, IsSound}
 use Rattle.fwd_chunks.proofs.Numbers.{not_from, eq_same}
 use Rattle.fwd_chunks.proofs.Sounding.{found-all, found-passes, found-only, IsSorted, with_entry, adds-sorted, sorted}

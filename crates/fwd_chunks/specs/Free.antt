@@ -10,8 +10,8 @@ use Rattle.std.specs.Prelude.{
   None,
   slice_get,
 }
-use Rattle.fwd_retry.specs.Waits.{wait_after}
-use Rattle.fwd_retry.specs.declared.losses.Losses.{Losses}
+use Rattle.fwd_base.specs.Waits.{wait_after}
+use Rattle.fwd_base.specs.declared.losses.Losses.{Losses}
 use Rattle.fwd_chunks.specs.declared.chunk.Chunk.{Chunk}
 use Rattle.fwd_chunks.specs.declared.chunk_state.ChunkState.TheVariants.{Open, Taken}
 use Rattle.fwd_chunks.specs.Live.{LiveBuffer}

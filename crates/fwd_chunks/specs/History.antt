@@ -40,7 +40,7 @@ use Rattle.fwd_base.specs.declared.counts.Counts.{Counts}
 use Rattle.fwd_chunks.specs.declared.span.Span.{Span}
 use Rattle.fwd_chunks.specs.declared.fault.AdmitError.{AdmitError}
 use Rattle.fwd_chunks.specs.declared.fault.AdmitError.TheVariants.{Full, NumbersSpent}
-use Rattle.fwd_retry.specs.Waits.{wait_after}
+use Rattle.fwd_base.specs.Waits.{wait_after}
 use Rattle.fwd_chunks.specs.Cells.{
   Cell,
   Loss,

@@ -30,4 +30,4 @@ pub mod Runs
 pub use Rattle.fwd_base.specs.declared.counts.Counts
 pub use Rattle.fwd_base.specs.declared.report.Report
 pub use Rattle.fwd_base.specs.declared.tag_count.TagCount
-pub use Rattle.fwd_retry.specs.Waits
+pub use Rattle.fwd_base.specs.Waits

@@ -13,8 +13,8 @@ use Rattle.fwd_chunks.specs.declared.fault.AdmitError.{AdmitError}
 use Rattle.fwd_chunks.specs.declared.fault.AdmitError.TheVariants.{Full, NumbersSpent}
 use Rattle.fwd_chunks.specs.declared.chunk_state.ChunkState.{ChunkState}
 use Rattle.fwd_chunks.specs.declared.chunk_state.ChunkState.TheVariants.{Open, Closed, Taken}
-use Rattle.fwd_retry.specs.declared.losses.Losses.{Losses}
-use Rattle.fwd_retry.specs.Tallies.{tally_of, tally_more, live_is_over}
+use Rattle.fwd_base.specs.declared.losses.Losses.{Losses}
+use Rattle.fwd_base.specs.Tallies.{tally_of, tally_more, live_is_over}
 use Rattle.fwd_chunks.specs.Cells.{
   Carry,
   size_of,

@@ -3,8 +3,8 @@
 use Rattle.std.specs.Prelude.{◌≡◌, ◌<◌, ◌≤◌, ℕ, zero, suc, ◌-◌, ◌^◌, ◌==◌, ◌++◌, ◌&&◌, nat_le, Bool, List, [], ◌∷◌, length, replicate, slice_set, Option, Some, None, is_some, option_to_list, if◌then◌else◌}
 use Rattle.std.specs.List.{AllByRecursion}
 use Rattle.fwd_chunks.specs.declared.chunk.Chunk.{Chunk}
-use Rattle.fwd_retry.specs.declared.retry.Retry.{Retry}
-use Rattle.fwd_retry.specs.Tallies.{end_of_wait}
+use Rattle.fwd_base.specs.declared.retry.Retry.{Retry}
+use Rattle.fwd_base.specs.Tallies.{end_of_wait}
 use Rattle.fwd_chunks.specs.Cells.{number_after}
 use Rattle.fwd_chunks.specs.Live.{is_open, is_closed}
 

@@ -4,10 +4,10 @@ use Rattle.std.specs.List.{AllByRecursion}
 use Rattle.fwd_modes.specs.declared.limits.TheConstants.{TAG_LIMIT}
 use Rattle.fwd_chunks.specs.declared.chunk.Chunk.{Chunk}
 use Rattle.fwd_chunks.specs.declared.tag_entry.TagEntry.{TagEntry}
-use Rattle.fwd_retry.specs.declared.retry.Retry.{Retry}
+use Rattle.fwd_base.specs.declared.retry.Retry.{Retry}
 use Rattle.fwd_chunks.specs.declared.chunk_state.ChunkState.TheVariants.{Closed}
 use Rattle.fwd_chunks.specs.Live.{LiveBuffer, bytes_in}
-use Rattle.fwd_retry.specs.Tallies.{tally_more}
+use Rattle.fwd_base.specs.Tallies.{tally_more}
 use Rattle.fwd_chunks.specs.Soundness.{IsSound}
 use Rattle.fwd_chunks.specs.Newest.{AreCounted, AreNewest}
 

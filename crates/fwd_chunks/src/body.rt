@@ -73,7 +73,7 @@ impl Body {
     pub fn ends(&self) -> EntryEnds<'_>
         ensures { ends_left result ≡ ends_of self.now }
     {
-        let _size = self.slices.size();
+        let _size = self.slices.size(); // for the proof
         EntryEnds::new(self.slices.iter())
     }
 

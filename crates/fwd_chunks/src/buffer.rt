@@ -70,9 +70,8 @@ use crate::plan::Plan;
 use crate::snapshot::Snapshot;
 use crate::spans::Spans;
 use crate::tags::Tags;
-use fwd_base::{Counts, Report};
+use fwd_base::{Counts, Report, Retry};
 use fwd_modes::{Batch, Origin, TAG_LIMIT, chunk_name};
-use fwd_retry::Retry;
 use std::alloc::{AllocError, Global};
 use std::marker::Model;
 
@@ -82,7 +81,7 @@ pub struct Buffer {
     limits: BufferLimits,
     run: [u8; 6],
     output: u16,
-    slots: ChunkIndex,
+    index: ChunkIndex,
     /// What is held of each tag, and the number of its newest chunk.
     tags: Tags,
     accepted: u64,
@@ -99,7 +98,7 @@ impl Drop for Buffer {
             limits: _,
             run: _,
             output: _,
-            slots: _,
+            index: _,
             tags: _,
             accepted: _,
             settled: _,
@@ -118,8 +117,8 @@ impl Model for Buffer {
 
     ghost view = { λ b. record {
       setting = record { limits = b.limits; run = b.run; output = b.output };
-      chunks = b.slots.chunks;
-      greatest = b.slots.last;
+      chunks = b.index.chunks;
+      greatest = b.index.last;
       accepted = b.accepted;
       settled = b.settled;
       moment = b.moment;
@@ -127,12 +126,12 @@ impl Model for Buffer {
 
     ghost invariant = { λ b. IsKept (record {
       setting = record { limits = b.limits; run = b.run; output = b.output };
-      chunks = b.slots.chunks;
-      greatest = b.slots.last;
+      chunks = b.index.chunks;
+      greatest = b.index.last;
       accepted = b.accepted;
       settled = b.settled;
       moment = b.moment;
-    }) b.bytes b.tags b.slots.retry };
+    }) b.bytes b.tags b.index.retry };
 }
 
 impl Buffer {
@@ -148,7 +147,7 @@ impl Buffer {
             limits,
             run,
             output,
-            slots: ChunkIndex::new(alloc, retry),
+            index: ChunkIndex::new(alloc, retry),
             tags: Tags::new(alloc),
             accepted: 0,
             settled: 0,
@@ -161,7 +160,7 @@ impl Buffer {
     pub fn is_sound(&self)
         ensures { IsSound self.now }
     {
-        let _moment = self.moment;
+        let _moment = self.moment; // for the proof
     }
 
     /// The entries accepted, settled and held, with the bytes held and the chunks that hold them.
@@ -173,7 +172,7 @@ impl Buffer {
             settled: self.settled,
             held: self.accepted - self.settled,
             bytes: self.bytes,
-            chunks: self.slots.len() as u64,
+            chunks: self.index.len() as u64,
         }
     }
 
@@ -207,7 +206,7 @@ impl Buffer {
         ensures { option_map (λ p. p.0.now) result ≡ find (is_open_of tag.now) self.now.chunks }
     {
         let (number, key) = self.tags.newest(tag)?;
-        let chunk = self.slots.get(number, key)?;
+        let chunk = self.index.get(number, key)?;
         if chunk.is_open_of(tag) {
             Some((chunk, key))
         } else {
@@ -244,7 +243,7 @@ impl Buffer {
         ensures { option_copied result ≡ find (is_open_of batch.now.tag) self.now.chunks }
     {
         let number = plan.joins?;
-        self.slots.get(number, plan.key)
+        self.index.get(number, plan.key)
     }
 
     /// The number of the next chunk; none where there is no number left.
@@ -252,7 +251,7 @@ impl Buffer {
         ensures some { IfSome result (λ number. number ≡ live_next_number self.now) }
         ensures none { IfNone result (live_next_number self.now ≡ 2 ^ 64) }
     {
-        match self.slots.last() {
+        match self.index.last() {
             None => Some(self.limits.first),
             Some(number) => number.checked_add(1),
         }
@@ -275,7 +274,7 @@ impl Buffer {
         requires { IsPlan self.now batch.now plan }
         ensures { (now : ℕ) → result ≡ live_is_spent (live_enters self.now batch.now now) }
     {
-        self.is_sound();
+        self.is_sound(); // for the proof
         self.exceeds(plan.needed, batch.len())
     }
 
@@ -325,9 +324,9 @@ impl Buffer {
         let spans = entering::spans_of(alloc, joined, &fresh)?;
         let copy = spans.copied(alloc)?;
         let newest = entering::newest_of(first, plan.needed);
-        self.slots.reserve(alloc, fresh.len())?;
+        self.index.reserve(alloc, fresh.len())?;
         self.tags.prepare(alloc, tag, newest)?;
-        let key = entering::fill(&mut self.slots, plan, fresh)?;
+        let key = entering::fill(&mut self.index, plan, fresh)?;
         self.tags.put(tag, newest, key, count, size);
         self.accepted += count;
         self.bytes += size;
@@ -409,7 +408,7 @@ impl Buffer {
         ensures flushed { self.new ≡ live_flushes self.old now kind }
     {
         self.moment = self.moment.max(now);
-        self.slots.flush(kind, self.limits.interval, self.moment)
+        self.index.flush(kind, self.limits.interval, self.moment)
     }
 
     /// What a worker has of the chunk, which lies at the key.
@@ -439,7 +438,7 @@ impl Buffer {
           moment = moment;
         } }
     {
-        self.slots.stage(number, key, ChunkState::Taken(worker));
+        self.index.stage(number, key, ChunkState::Taken(worker));
         self.moment = moment;
     }
 
@@ -461,7 +460,7 @@ impl Buffer {
         ensures none { live_given (live_looks self.old now) ≡ None → IsOk result }
     {
         let moment = self.moment.max(now);
-        let Some((chunk, key)) = self.slots.first_free(moment) else {
+        let Some((chunk, key)) = self.index.first_free(moment) else {
             self.moment = moment;
             return Ok(None);
         };
@@ -476,7 +475,7 @@ impl Buffer {
     pub fn carries(&self, carried: &Carried) -> bool
         ensures { IsTrue result ↔ IsCarried self.now carried.now }
     {
-        match self.slots.get(carried.number(), carried.key()) {
+        match self.index.get(carried.number(), carried.key()) {
             None => false,
             Some(chunk) => {
                 let name = chunk_name(&self.run, self.output, chunk.number);
@@ -490,7 +489,7 @@ impl Buffer {
     pub fn losses(&self, carried: &Carried) -> u8
         ensures { result ≡ live_losses self.now carried.now.number }
     {
-        match self.slots.get(carried.number(), carried.key()) {
+        match self.index.get(carried.number(), carried.key()) {
             None => 0,
             Some(chunk) => chunk.losses.map_or(0, |losses| losses.count),
         }
@@ -501,7 +500,7 @@ impl Buffer {
     fn remove(&mut self, number: u64, key: usize)
         ensures { self.new ≡ live_settles self.old number }
     {
-        if let Some(chunk) = self.slots.remove(number, key) {
+        if let Some(chunk) = self.index.remove(number, key) {
             let count = chunk.entries.len() as u64;
             let size = chunk.entries.size();
             self.tags.take(chunk.tag.as_slice(), count, size);
@@ -535,7 +534,7 @@ impl Buffer {
             None => self.moment,
             Some(now) => self.moment.max(now),
         };
-        self.slots.put_back(number, key, loss.is_some(), moment);
+        self.index.put_back(number, key, loss.is_some(), moment);
         self.moment = moment;
     }
 

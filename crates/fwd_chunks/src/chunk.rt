@@ -3,8 +3,7 @@ ghost use Rattle.fwd_chunks.specs.Live.{is_taken, is_open_of};
 
 use crate::body::Body;
 use crate::chunk_state::ChunkState;
-use fwd_base::Bytes;
-use fwd_retry::Losses;
+use fwd_base::{Bytes, Losses};
 
 /// A chunk that is not settled. Moments are in milliseconds.
 #[derive(Drop)]

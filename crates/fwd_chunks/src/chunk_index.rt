@@ -39,7 +39,7 @@ ghost use Rattle.fwd_chunks.specs.Live.{
   changed,
   staged,
 };
-ghost use Rattle.fwd_retry.specs.Tallies.{live_is_over};
+ghost use Rattle.fwd_base.specs.Tallies.{live_is_over};
 ghost use Rattle.fwd_chunks.specs.Parts.{entries_in};
 ghost use Rattle.fwd_chunks.specs.Slots.{
   ChunksRise,
@@ -57,16 +57,20 @@ use crate::chunk_state::ChunkState;
 use crate::entry_range::EntryRange;
 use crate::flush::FlushKind;
 use crate::ready_index::ReadyIndex;
-use fwd_retry::Retry;
+use fwd_base::Retry;
 use std::alloc::{AllocError, Global};
 use std::marker::Model;
+
+/// For how many chunks there is room at least. With less, a few chunks that come and go would have
+/// the keys made anew for each second one.
+const LEAST_HELD: usize = 16;
 
 /// Chunks by rising number, with room for more.
 #[derive(Drop)]
 pub(crate) struct ChunkIndex {
-    shelf: ChunkSlab,
-    /// By the places of the shelf.
-    keys: ReadyIndex,
+    slab: ChunkSlab,
+    /// By the places of the slab.
+    ready_index: ReadyIndex,
     /// The greatest number that a chunk had.
     last: Option<u64>,
 }
@@ -78,13 +82,13 @@ impl Model for ChunkIndex {
     ghost Value = { Held };
 
     ghost view = { λ s. record {
-      retry = s.keys.retry;
-      chunks = present s.shelf.slots;
+      retry = s.ready_index.retry;
+      chunks = present s.slab.slots;
       last = s.last;
-      room = min (length s.keys.ready - length s.shelf.slots) s.shelf.spare;
+      room = min (length s.ready_index.ready - length s.slab.slots) s.slab.spare;
     } };
 
-    ghost invariant = { λ s. IsSlotted s.shelf.slots s.shelf.cap s.keys s.last };
+    ghost invariant = { λ s. IsSlotted s.slab.slots s.slab.cap s.ready_index s.last };
 }
 
 /// Whether a chunk is open, and is not closed as entries go to it.
@@ -99,13 +103,14 @@ fn stays_open(chunk: Option<&Chunk>, last: bool) -> bool
 }
 
 /// The keys at a place are those of the chunk there, if there is one.
-fn note(keys: &mut ReadyIndex, shelf: &ChunkSlab, place: usize)
-    requires ready { place < length keys.old.ready }
-    requires due { place < length keys.old.due }
-    ensures { keys.new ≡ noted place (chunk_in (slice_get shelf.now.slots place)) keys.old }
+fn note(ready_index: &mut ReadyIndex, slab: &ChunkSlab, place: usize)
+    requires ready { place < length ready_index.old.ready }
+    requires due { place < length ready_index.old.due }
+    ensures { ready_index.new
+        ≡ noted place (chunk_in (slice_get slab.now.slots place)) ready_index.old }
 {
-    if let Some(chunk) = shelf.get(place) {
-        keys.set(place, chunk);
+    if let Some(chunk) = slab.get(place) {
+        ready_index.set(place, chunk);
     }
 }
 
@@ -115,8 +120,8 @@ impl ChunkIndex {
         ensures { result ≡ record { retry = retry; chunks = []; last = None; room = 0 } }
     {
         ChunkIndex {
-            shelf: ChunkSlab::new(alloc),
-            keys: ReadyIndex::new(alloc, retry),
+            slab: ChunkSlab::new(alloc),
+            ready_index: ReadyIndex::new(alloc, retry),
             last: None,
         }
     }
@@ -127,14 +132,14 @@ impl ChunkIndex {
         ensures timed { AllByRecursion (λ c. c.since < 2 ^ 64) self.now.chunks }
         ensures bound { length self.now.chunks < 2 ^ 64 }
     {
-        let _held = self.shelf.held();
+        let _held = self.slab.held(); // for the proof
     }
 
     /// How many chunks there are.
     pub(crate) fn len(&self) -> usize
         ensures { result ≡ length self.now.chunks }
     {
-        self.shelf.held()
+        self.slab.held()
     }
 
     /// The greatest number that a chunk had.
@@ -148,7 +153,7 @@ impl ChunkIndex {
     pub(crate) fn get(&self, number: u64, key: usize) -> Option<&Chunk>
         ensures { option_copied result ≡ find (is_at number) self.now.chunks }
     {
-        self.shelf.find(number, key)
+        self.slab.find(number, key)
     }
 
     /// The first chunk that a worker may have at a moment, and its key.
@@ -157,8 +162,8 @@ impl ChunkIndex {
             && live_is_over self.now.retry.wait self.now.retry.max c.losses moment)
             self.now.chunks }
     {
-        let place = self.keys.first_ready(moment)?;
-        self.shelf.keyed(place)
+        let place = self.ready_index.first_ready(moment)?;
+        self.slab.keyed(place)
     }
 
     /// The number of the first open chunk that began at the moment or before, and its key.
@@ -166,8 +171,8 @@ impl ChunkIndex {
         ensures { option_map (λ p. p.0) result ≡ option_map (λ c. c.number)
             (find (began_by moment) self.now.chunks) }
     {
-        let place = self.keys.first_due(moment)?;
-        let (chunk, key) = self.shelf.keyed(place)?;
+        let place = self.ready_index.first_due(moment)?;
+        let (chunk, key) = self.slab.keyed(place)?;
         Some((chunk.number, key))
     }
 
@@ -178,11 +183,11 @@ impl ChunkIndex {
           chunks = changed (is_at number) (staged stage) self.old.chunks;
         } }
     {
-        let Some(place) = self.shelf.place_of(number, key) else {
+        let Some(place) = self.slab.place_of(number, key) else {
             return;
         };
-        self.shelf.stage(place, stage);
-        note(&mut self.keys, &self.shelf, place);
+        self.slab.stage(place, stage);
+        note(&mut self.ready_index, &self.slab, place);
     }
 
     /// The chunk of the number, if there is one, is closed again, with a loss at a moment where it
@@ -192,11 +197,11 @@ impl ChunkIndex {
           chunks = changed (is_at number) (put_back lost moment) self.old.chunks;
         } }
     {
-        let Some(place) = self.shelf.place_of(number, key) else {
+        let Some(place) = self.slab.place_of(number, key) else {
             return;
         };
-        self.shelf.put_back(place, lost, moment);
-        note(&mut self.keys, &self.shelf, place);
+        self.slab.put_back(place, lost, moment);
+        note(&mut self.ready_index, &self.slab, place);
     }
 
     /// Entries go to the open chunk of the number, if there is one, and it is closed where others
@@ -217,13 +222,13 @@ impl ChunkIndex {
         }) }
         ensures err { OnErr result (self.new ≡ self.old) }
     {
-        let Some(place) = self.shelf.place_of(number, key) else {
+        let Some(place) = self.slab.place_of(number, key) else {
             return Ok(());
         };
-        let stays = stays_open(self.shelf.get(place), last);
-        self.shelf.join(place, front, last)?;
+        let stays = stays_open(self.slab.get(place), last);
+        self.slab.join(place, front, last)?;
         if !stays {
-            note(&mut self.keys, &self.shelf, place);
+            note(&mut self.ready_index, &self.slab, place);
         }
         Ok(())
     }
@@ -236,9 +241,9 @@ impl ChunkIndex {
           room = self.new.room;
         } }
     {
-        let place = self.shelf.place_of(number, key)?;
-        let chunk = self.shelf.take(place)?;
-        self.keys.clear(place);
+        let place = self.slab.place_of(number, key)?;
+        let chunk = self.slab.take(place)?;
+        self.ready_index.clear(place);
         Some(chunk)
     }
 
@@ -247,15 +252,15 @@ impl ChunkIndex {
         ensures ok { OnOk result (count ≤ self.new.room) }
         ensures kept { record self.new { room = 0 } ≡ record self.old { room = 0 } }
     {
-        self.shelf.reserve(count)?;
-        if count <= self.keys.places() - self.shelf.len() {
+        self.slab.reserve(count)?;
+        if count <= self.ready_index.places() - self.slab.len() {
             return Ok(());
         }
-        let needed = self.shelf.held().checked_add(count).ok_or(AllocError)?;
-        let places = needed.checked_mul(2).ok_or(AllocError)?;
-        let keys = ReadyIndex::of(alloc, self.keys.retry(), &self.shelf, places)?;
-        self.shelf.compact(places)?;
-        self.keys = keys;
+        let needed = self.slab.held().checked_add(count).ok_or(AllocError)?;
+        let places = needed.max(LEAST_HELD).checked_mul(2).ok_or(AllocError)?;
+        let ready_index = ReadyIndex::of(alloc, self.ready_index.retry(), &self.slab, places)?;
+        self.slab.compact(places)?;
+        self.ready_index = ready_index;
         Ok(())
     }
 
@@ -270,9 +275,9 @@ impl ChunkIndex {
         } }
     {
         let number = chunk.number;
-        self.keys.set(self.shelf.len(), &chunk);
+        self.ready_index.set(self.slab.len(), &chunk);
         self.last = Some(number);
-        self.shelf.push(chunk)
+        self.slab.push(chunk)
     }
 
     /// Chunks come behind all others, into room that is there. Answers the key of the last.
@@ -298,9 +303,9 @@ impl ChunkIndex {
         } }
     {
         let mut count = 0;
-        self.is_ordered();
+        self.is_ordered(); // for the proof
         while let Some((number, key)) = self.first_due(moment) {
-            self.is_ordered();
+            self.is_ordered(); // for the proof
             self.stage(number, key, ChunkState::Closed);
             count += 1;
         }
@@ -314,7 +319,7 @@ impl ChunkIndex {
           chunks = changed (is_due kind interval moment) (staged ChunkState.Closed) self.old.chunks;
         } }
     {
-        self.is_ordered();
+        self.is_ordered(); // for the proof
         match kind {
             FlushKind::All => self.close_from(u64::MAX),
             FlushKind::Due => match moment.checked_sub(interval) {

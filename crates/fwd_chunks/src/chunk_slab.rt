@@ -56,7 +56,7 @@ ghost use Rattle.fwd_chunks.specs.Stored.{put_back};
 use crate::chunk::Chunk;
 use crate::chunk_state::{ChunkState, stage_of};
 use crate::entry_range::EntryRange;
-use fwd_retry::Losses;
+use fwd_base::Losses;
 use slab::Slab;
 use std::alloc::{AllocError, Global};
 use std::marker::Model;
@@ -70,7 +70,7 @@ struct ChunkPlace {
 
 /// A chunk, and where its place stands.
 #[derive(Drop)]
-struct Kept {
+struct KeptChunk {
     chunk: Chunk,
     place: usize,
 }
@@ -80,7 +80,7 @@ struct Kept {
 pub(crate) struct ChunkSlab {
     /// By rising number. A slot is empty once its key has no chunk of its number.
     places: Vec<ChunkPlace>,
-    kept: Slab<Kept>,
+    kept: Slab<KeptChunk>,
 }
 
 impl Model for ChunkSlab {
@@ -107,7 +107,7 @@ fn place_at(places: &[ChunkPlace], place: usize) -> Option<ChunkPlace>
 }
 
 /// The key of the chunk that stands at a place, if one does.
-fn key_at(places: &[ChunkPlace], kept: &Slab<Kept>, place: usize) -> Option<usize>
+fn key_at(places: &[ChunkPlace], kept: &Slab<KeptChunk>, place: usize) -> Option<usize>
     ensures some { IfSome result (λ key. StandsAt places.now kept.now place key) }
     ensures none { IfNone result
         (chunk_in (slice_get (slots_by kept.now places.now) place) ≡ None) }
@@ -120,7 +120,7 @@ fn key_at(places: &[ChunkPlace], kept: &Slab<Kept>, place: usize) -> Option<usiz
 }
 
 /// Whether the place's chunk is there.
-fn is_there(kept: &Slab<Kept>, place: ChunkPlace) -> bool
+fn is_there(kept: &Slab<KeptChunk>, place: ChunkPlace) -> bool
     ensures { result ≡ is_full (slot_by kept.now place) }
 {
     match kept.get(place.key) {
@@ -130,7 +130,7 @@ fn is_there(kept: &Slab<Kept>, place: ChunkPlace) -> bool
 }
 
 /// The places whose chunks left go.
-fn compact(places: &mut Vec<ChunkPlace>, kept: &Slab<Kept>)
+fn compact(places: &mut Vec<ChunkPlace>, kept: &Slab<KeptChunk>)
     ensures items { places.new.items
         ≡ filter (λ p. is_full (slot_by kept.now p)) places.old.items }
     ensures capacity { places.new.cap ≡ places.old.cap }
@@ -139,7 +139,7 @@ fn compact(places: &mut Vec<ChunkPlace>, kept: &Slab<Kept>)
 }
 
 /// Each chunk is told where its place stands now.
-fn link(kept: &mut Slab<Kept>, places: &[ChunkPlace])
+fn link(kept: &mut Slab<KeptChunk>, places: &[ChunkPlace])
     requires full { AllByRecursion (λ p. is_full (slot_by kept.old p) ≡ true) places.now }
     requires there { IsThere places.now kept.old }
     ensures linked { AreLinked places.now kept.new }
@@ -163,7 +163,7 @@ fn join(chunk: &mut Chunk, front: EntryRange<'_>, last: bool) -> Result<(), Allo
         ≡ joined_by (entries_in front.entry) (stage_last last) chunk.old) }
     ensures err { OnErr result (chunk.new ≡ chunk.old) }
 {
-    let _size = chunk.entries.size();
+    let _size = chunk.entries.size(); // for the proof
     chunk.entries.extend(front)?;
     chunk.stage = stage_of(last);
     Ok(())
@@ -360,7 +360,7 @@ impl ChunkSlab {
     {
         let number = chunk.number;
         let place = self.places.len();
-        let key = self.kept.insert_reserved(Kept { chunk, place });
+        let key = self.kept.insert_reserved(KeptChunk { chunk, place });
         self.places.push_reserved(ChunkPlace { number, key });
         key
     }

@@ -190,26 +190,26 @@ pub(crate) fn spans_of(
 /// Entries go to the open chunk of a number, if there is one, and new chunks come behind all, into
 /// room that is there. Answers the key of the last of them. On an error nothing has changed.
 pub(crate) fn fill(
-    slots: &mut ChunkIndex,
+    index: &mut ChunkIndex,
     plan: Plan<'_>,
     fresh: Vec<Chunk>,
 ) -> Result<usize, AllocError>
-    requires room { length fresh.items ≤ slots.old.room }
-    requires rising { AreAbove slots.old.last fresh.items }
+    requires room { length fresh.items ≤ index.old.room }
+    requires rising { AreAbove index.old.last fresh.items }
     requires fits { (n : ℕ) (c : Chunk) → plan.joins ≡ Some n
-        → find (is_at n) slots.old.chunks ≡ Some c → size_of c.entries < 2 ^ 32
+        → find (is_at n) index.old.chunks ≡ Some c → size_of c.entries < 2 ^ 32
         → size_of c.entries + size_of (entries_in plan.front) < 2 ^ 32 }
-    ensures ok { OnOk result (slots.new ≡ appended (record slots.old {
+    ensures ok { OnOk result (index.new ≡ appended (record index.old {
       chunks = filled_in plan.entry.joins (entries_in plan.entry.front)
-          (stage_last (length fresh.items == 0)) slots.old.chunks;
+          (stage_last (length fresh.items == 0)) index.old.chunks;
     }) fresh.items) }
-    ensures err { OnErr result (slots.new ≡ slots.old) }
+    ensures err { OnErr result (index.new ≡ index.old) }
 
     // Where no entry goes to a chunk that is there, no memory is taken.
     ensures sure { plan.entry.joins ≡ None → IsOk result }
 {
     if let Some(number) = plan.joins {
-        slots.join(number, plan.key, plan.front, fresh.is_empty())?;
+        index.join(number, plan.key, plan.front, fresh.is_empty())?;
     }
-    Ok(slots.append(fresh))
+    Ok(index.append(fresh))
 }

@@ -39,7 +39,7 @@ impl<'a> EntryRange<'a> {
         ensures value { entries_in result ≡ batch.now.entries }
         ensures bound { size_of (entries_in result) < 2 ^ 32 }
     {
-        let _bytes = batch.entries();
+        let _bytes = batch.entries(); // for the proof
         EntryRange {
             batch,
             first: 0,
@@ -100,7 +100,7 @@ impl<'a> EntryRange<'a> {
         ensures value { result ≡ size_of (entries_in self.entry) }
         ensures each { length (entries_in self.entry) ≤ result }
     {
-        let _bytes = self.batch.entries();
+        let _bytes = self.batch.entries(); // for the proof
         let end = end_of(self.batch, self.first + self.count);
         (end - end_of(self.batch, self.first)) as u64
     }

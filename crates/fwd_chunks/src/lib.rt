@@ -36,7 +36,6 @@ pub use body::Body;
 pub use body_parts::{BodyParts, EntryEnds};
 pub use buffer::Buffer;
 pub use carried::Carried;
-pub use entries::BodyEntries;
 pub use fault::AdmitError;
 pub use flush::FlushKind;
 pub use fwd_base::{Counts, Report, TagCount};

@@ -8,7 +8,7 @@ use crate::chunk::Chunk;
 use crate::chunk_slab::ChunkSlab;
 use crate::chunk_state::ChunkState;
 use crate::min_tree::MinTree;
-use fwd_retry::Retry;
+use fwd_base::Retry;
 use std::alloc::{AllocError, Global};
 use std::marker::Model;
 
@@ -54,16 +54,16 @@ fn due_key(chunk: &Chunk) -> Option<u64>
 fn ready_keys(
     alloc: Global,
     retry: Retry,
-    shelf: &ChunkSlab,
+    slab: &ChunkSlab,
     places: usize,
 ) -> Result<Vec<Option<u64>>, AllocError>
-    requires { length (present shelf.now.slots) ≤ places }
+    requires { length (present slab.now.slots) ≤ places }
     ensures { IfOk result (λ keys.
-        keys.items ≡ padded places (map (ready_key retry) (present shelf.now.slots))) }
+        keys.items ≡ padded places (map (ready_key retry) (present slab.now.slots))) }
 {
     let mut keys = Vec::with_capacity(alloc, places)?;
-    for place in 0..shelf.len() {
-        if let Some(chunk) = shelf.get(place) {
+    for place in 0..slab.len() {
+        if let Some(chunk) = slab.get(place) {
             keys.push(ready_key(retry, chunk))?;
         }
     }
@@ -72,14 +72,14 @@ fn ready_keys(
 }
 
 /// So many keys: those of the chunks that are there, and none behind them.
-fn due_keys(alloc: Global, shelf: &ChunkSlab, places: usize) -> Result<Vec<Option<u64>>, AllocError>
-    requires { length (present shelf.now.slots) ≤ places }
+fn due_keys(alloc: Global, slab: &ChunkSlab, places: usize) -> Result<Vec<Option<u64>>, AllocError>
+    requires { length (present slab.now.slots) ≤ places }
     ensures { IfOk result (λ keys.
-        keys.items ≡ padded places (map due_key (present shelf.now.slots))) }
+        keys.items ≡ padded places (map due_key (present slab.now.slots))) }
 {
     let mut keys = Vec::with_capacity(alloc, places)?;
-    for place in 0..shelf.len() {
-        if let Some(chunk) = shelf.get(place) {
+    for place in 0..slab.len() {
+        if let Some(chunk) = slab.get(place) {
             keys.push(due_key(chunk))?;
         }
     }
@@ -103,20 +103,20 @@ impl ReadyIndex {
     pub(crate) fn of(
         alloc: Global,
         retry: Retry,
-        shelf: &ChunkSlab,
+        slab: &ChunkSlab,
         places: usize,
     ) -> Result<Self, AllocError>
-        requires { length (present shelf.now.slots) ≤ places }
+        requires { length (present slab.now.slots) ≤ places }
         ensures { IfOk result (λ keys. keys ≡ record {
           retry = retry;
-          ready = padded places (map (ready_key retry) (present shelf.now.slots));
-          due = padded places (map due_key (present shelf.now.slots));
+          ready = padded places (map (ready_key retry) (present slab.now.slots));
+          due = padded places (map due_key (present slab.now.slots));
         }) }
     {
         Ok(ReadyIndex {
             retry,
-            ready: MinTree::of(alloc, ready_keys(alloc, retry, shelf, places)?)?,
-            due: MinTree::of(alloc, due_keys(alloc, shelf, places)?)?,
+            ready: MinTree::of(alloc, ready_keys(alloc, retry, slab, places)?)?,
+            due: MinTree::of(alloc, due_keys(alloc, slab, places)?)?,
         })
     }
 

@@ -67,7 +67,7 @@ impl SendCursor {
     pub(crate) fn new(slices: Arc<EntrySlices>) -> Self
         ensures { result ≡ concat (joined (arc_value slices)) }
     {
-        let _slices = slices.as_slice();
+        let _slices = slices.as_slice(); // for the proof
         let left = slices.size() as usize;
         SendCursor {
             slices,

@@ -15,6 +15,7 @@ ghost use Rattle.std.specs.Prelude.{
   Some,
   None,
   true,
+  false,
   IsSome,
   IfOk,
   IfSome,
@@ -48,6 +49,8 @@ use std::marker::Model;
 #[derive(Drop)]
 pub(crate) struct Tags {
     entries: IndexMap<Vec<u8>, TagEntry>,
+    /// Where the tag stands mostly that was put last. It is compared before a tag is looked up.
+    recent: usize,
 }
 
 impl Model for Tags {
@@ -66,6 +69,7 @@ impl Tags {
     {
         Tags {
             entries: IndexMap::new(alloc),
+            recent: 0,
         }
     }
 
@@ -73,7 +77,10 @@ impl Tags {
     fn entry(&self, tag: &[u8]) -> Option<TagEntry>
         ensures { result ≡ tag_entry tag.now self.now }
     {
-        self.entries.get(tag).copied()
+        match self.entries.get_index(self.recent) {
+            Some((name, entry)) if name.as_slice() == tag => Some(*entry),
+            _ => self.entries.get(tag).copied(),
+        }
     }
 
     /// The number of a tag, and where the chunk of that number lies, if it is there.
@@ -148,6 +155,48 @@ impl Tags {
         Ok(())
     }
 
+    /// The tag is the one that was put last, if something is kept for it.
+    fn seek(&mut self, tag: &[u8])
+        ensures { self.new ≡ self.old }
+    {
+        if let Some(place) = self.entries.get_index_of(tag) {
+            self.recent = place;
+        }
+    }
+
+    /// As `raise`, if the tag is the one that was put last. Whether it is.
+    fn raise_recent(
+        &mut self,
+        tag: &[u8],
+        number: Option<u64>,
+        key: usize,
+        count: u64,
+        size: u64,
+    ) -> bool
+        requires held { held_by (tag_entry tag.now self.old) + count < 2 ^ 64 }
+        requires bytes { bytes_by (tag_entry tag.now self.old) + size < 2 ^ 64 }
+        ensures raised { result ≡ true → (t : List ℕ) → tag_entry t self.new
+            ≡ (if bytes_eq tag.now t
+            then option_map (raised number key count size) (tag_entry tag.now self.old)
+            else tag_entry t self.old) }
+        ensures other { result ≡ false → self.new ≡ self.old }
+    {
+        let Some((name, entry)) = self.entries.get_index(self.recent) else {
+            return false;
+        };
+        if name.as_slice() != tag {
+            return false;
+        }
+        let raised = entry.raised(number, key, count, size);
+        match self.entries.get_index_mut(self.recent) {
+            Some(place) => {
+                *place = raised;
+                true
+            }
+            None => false,
+        }
+    }
+
     /// So many entries more are held of the tag, for which something is kept, and so many bytes;
     /// its newest chunk has the number and lies at the key, if there is one.
     fn raise(&mut self, tag: &[u8], number: Option<u64>, key: usize, count: u64, size: u64)
@@ -160,6 +209,24 @@ impl Tags {
     {
         if let Some(place) = self.entries.get_mut(tag) {
             *place = place.raised(number, key, count, size);
+        }
+    }
+
+    /// The same. Where the tag is the one that was put last, it is not looked up.
+    fn raise_put(&mut self, tag: &[u8], number: Option<u64>, key: usize, count: u64, size: u64)
+        requires there { IsSome (tag_entry tag.now self.old) }
+        requires held { held_by (tag_entry tag.now self.old) + count < 2 ^ 64 }
+        requires bytes { bytes_by (tag_entry tag.now self.old) + size < 2 ^ 64 }
+        ensures { (t : List ℕ) → tag_entry t self.new ≡ (if bytes_eq tag.now t
+            then option_map (raised number key count size) (tag_entry tag.now self.old)
+            else tag_entry t self.old) }
+    {
+        if self.raise_recent(tag, number, key, count, size) {
+            return;
+        }
+        self.seek(tag);
+        if !self.raise_recent(tag, number, key, count, size) {
+            self.raise(tag, number, key, count, size);
         }
     }
 
@@ -184,7 +251,7 @@ impl Tags {
             × (bytes_eq tag.now t ≡ true → count ≤ e.held) }
     {
         if count > 0 {
-            self.raise(tag, number, key, count, size);
+            self.raise_put(tag, number, key, count, size);
         }
     }
 

@@ -2,7 +2,7 @@
 use Rattle.std.proofs.Common.{◌≡◌, ℕ, false, List, [], ◌∷◌, ◌++◌, Option, Some, refl, sym, ap, ◌∙◌}
 use Rattle.std.specs.Prelude.{map, option_and_then}
 use Rattle.std.specs.List.{concat}
-use Rattle.std.proofs.lemmas.List.{append-nil, append_assoc, map-append}
+use Rattle.std.proofs.lemmas.List.{append-nil, append_assoc}
 use Rattle.fwd_modes.specs.declared.origin.Origin.{Origin}
 use Rattle.fwd_source.specs.Live.{LiveSource, source_appends}
 use Rattle.fwd_book.specs.History.{Entered, request_at}
@@ -14,13 +14,10 @@ use Rattle.fwd_model.specs.declared.fault.Refusal.TheVariants.{Closed}
 use Rattle.fwd_model.specs.Outcome.{Outcome, Goes, answer_of, state_of, refuse_if, ◌>>◌}
 use Rattle.fwd_model.specs.Step.{collect}
 use Rattle.fwd_model.specs.Live.{LiveLane, with_live_book, lives}
-use Rattle.fwd_core.specs.Lanes.{chunk_at}
+use Rattle.fwd_output.specs.HandedBack.{chunk_at}
+use Rattle.fwd_output.proofs.Basics.{map-more}
 
 -- ---- one receipt more
-
-pub map-more : {X Y : Type 0} (f : X → Y) (xs ys : List X) (x : X) → ys ≡ xs ++ x ∷ []
-    → map f ys ≡ map f xs ++ f x ∷ []
-map-more f xs ys x e = ap (map f) e ∙ map-append f xs (x ∷ [])
 
 concat-append : (xs ys : List (List ℕ)) → concat (xs ++ ys) ≡ concat xs ++ concat ys
 concat-append [] ys = refl

@@ -1,7 +1,7 @@
 -- Workers' chunks stay those of the buffer, at each change of the buffer and of a worker.
 use Rattle.std.proofs.Common.{◌≡◌, ◌≢◌, ℕ, Bool, true, false, cond, zero, suc, ◌+◌, ◌≤◌, replicate, Option, Some, None, List, [], ◌∷◌, ◌++◌, refl, sym, ap, subst, ◌∙◌, arith}
 use Rattle.std.proofs.Math.ListN.{set}
-use Rattle.std.specs.Prelude.{◌==◌, option_map, option_to_list, slice_get, Result, Ok, Err, OnOk, OnErr}
+use Rattle.std.specs.Prelude.{◌==◌, option_map, option_to_list, slice_get}
 use Rattle.std.specs.List.{AllByRecursion}
 use Rattle.std.proofs.lemmas.Bool.Decides.{nat_tests}
 use Rattle.fwd_modes.specs.Requests.{Request}
@@ -15,8 +15,10 @@ use Rattle.fwd_model.specs.Layers.{Worker}
 use Rattle.fwd_model.specs.Outputs.{Return, return_of, live_gets_back, returned, moment_if}
 use Rattle.fwd_session.specs.Live.{LiveSession}
 use Rattle.fwd_session.proofs.Lists.{all_same}
-use Rattle.fwd_core.specs.Lanes.{no_work, chunks_in, chunks_at, chunks_of, times, AreHere, AreHeld, IsSameWork}
-use Rattle.fwd_core.proofs.ChunkLemmas.{all_both, all_map, all-at, all-set, times-at, times-each, times-first, times-more, times-none, times-others, times-set}
+use Rattle.fwd_core.specs.Lanes.{no_work, chunks_in, chunks_at, chunks_of, AreHeld, IsSameWork}
+use Rattle.fwd_output.specs.HandedBack.{times, AreHere}
+use Rattle.fwd_core.proofs.ChunkLemmas.{all-at, all-set, times-at, times-set}
+use Rattle.fwd_output.proofs.ChunkLemmas.{all_both, all_map, times-each, times-first, times-more, times-none, times-others}
 
 none_some : {X : Type 0} {x : X} → None ≡ Some x → ⊥
 none_some e = cc
@@ -205,9 +207,3 @@ held-ends b ws place now x loaded own here has = record {
 
     gone : AllByRecursion (λ c. times c.number others ≡ 0) (chunks_at x)
     gone = all_same (λ c. 1 ≤ times c.number (chunks_at x)) (λ c. times c.number others ≡ 0) (chunks_at x) (λ c e. omega (arith, e, own.apart c.number, left c.number)) (times-each (chunks_at x))
-
--- what is so where a call succeeds, and where it fails
-pub either_way : {T E : Type 0} (P Q R : Type 0) (r : Result T E) → OnOk r P → OnErr r Q
-    → (P → R) → (Q → R) → R
-either_way P Q R (Ok x) p q f g = f p
-either_way P Q R (Err e) p q f g = g q

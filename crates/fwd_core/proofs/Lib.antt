@@ -2,14 +2,10 @@ pub mod PlaceLemmas
 pub mod RelayLemmas
 pub mod OpeningLemmas
 pub mod RunLemmas
-pub mod CouplingLemmas
 pub mod CollectLemmas
 pub mod ChunkLemmas
 pub mod HeldLemmas
-pub mod CarriedLemmas
-pub mod HandingLemmas
 pub mod WorkerLemmas
 pub mod LaneLemmas
-pub mod OutputLemmas
 pub mod ReturnLemmas
 pub mod StandingLemmas

@@ -1,8 +1,6 @@
 -- The live part of the opening state: outputs with no entries, and workers that have nothing.
-use Rattle.std.proofs.Common.{◌≡◌, Bool, true, false, ℕ, zero, suc, List, [], ◌∷◌, ◌++◌, ◌+◌, length, None, refl, ap, replicate, arith}
-use Rattle.std.specs.Prelude.{map, not, Contains}
-use Rattle.std.specs.List.{list_any}
-use Rattle.std.proofs.lemmas.Map.Views.{Contains-from_any}
+use Rattle.std.proofs.Common.{◌≡◌, ℕ, zero, suc, List, [], ◌∷◌, ◌++◌, ◌+◌, length, None, refl, ap, replicate, arith}
+use Rattle.std.specs.Prelude.{map}
 use Rattle.fwd_chunks.specs.History.{BufferSetting}
 use Rattle.fwd_chunks.specs.Live.{live_buffer}
 use Rattle.fwd_model.specs.declared.config.Config.{Config}
@@ -44,24 +42,6 @@ pub opening-live : (config : Config)
     }
 unfolding live opening
 opening-live config = λ i. record { run = config.run; routes = config.routes; security = config.security; limits = config.limits; last = None; connections = []; lanes = new_lanes-live config.run 0 config.outputs i }
-
--- ---- some server is no standby
-
-abbrev same : Bool → Bool → Bool
-same false b = not b
-same true b = b
-
-apart : false ≡ true → ⊥
-apart e = absurd cc
-
-same-is : (a b : Bool) → same a b ≡ true → a ≡ b
-same-is false false e = refl
-same-is false true e = absurd (apart e)
-same-is true false e = absurd (apart e)
-same-is true true e = refl
-
-pub has-false : (bs : List Bool) → list_any not bs ≡ true → Contains bs false
-has-false bs e = Contains-from_any same-is false bs e
 
 -- ---- one output after the other
 

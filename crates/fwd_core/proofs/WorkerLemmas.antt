@@ -15,8 +15,9 @@ use Rattle.fwd_session.proofs.Lists.{all_append, all_find, all_left, all_without
 use Rattle.fwd_model.specs.declared.config.OutputConfig.{OutputConfig}
 use Rattle.fwd_model.specs.Layers.{Worker}
 use Rattle.fwd_model.specs.Setups.{session_setup}
-use Rattle.fwd_core.specs.Lanes.{IsRoomy, IsSameWork, chunks_at, times}
-use Rattle.fwd_core.proofs.ChunkLemmas.{all_front, all_back, times-append}
+use Rattle.fwd_core.specs.Lanes.{IsRoomy, IsSameWork, chunks_at}
+use Rattle.fwd_output.specs.HandedBack.{times}
+use Rattle.fwd_output.proofs.ChunkLemmas.{all_front, all_back, times-append}
 
 abbrev chunk_in : LiveLoaded → CarriedChunk
 chunk_in l = l.chunk

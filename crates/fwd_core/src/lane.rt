@@ -26,7 +26,8 @@ ghost use Rattle.fwd_book.specs.History.{request_at};
 ghost use Rattle.fwd_book.specs.Receipts.{receipts};
 ghost use Rattle.fwd_book.specs.Live.{IsSound, evidence_for, live_due, live_leaves};
 ghost use Rattle.fwd_model.specs.Books.{ack_asked};
-ghost use Rattle.fwd_core.specs.Lanes.{chunk_at, new_live_lane};
+ghost use Rattle.fwd_core.specs.Lanes.{new_live_lane};
+ghost use Rattle.fwd_output.specs.HandedBack.{chunk_at};
 ghost use Rattle.fwd_core.specs.Runs.{is_free, IsBadAt};
 ghost use Rattle.fwd_model.specs.Outcome.{answer_of, state_of, chunk_answer};
 ghost use Rattle.fwd_model.specs.Step.{
@@ -44,16 +45,15 @@ ghost use Rattle.fwd_model.specs.Step.{
   forget,
 };
 
-use crate::due::Due;
+use crate::due_answers::DueAnswers;
 use crate::lane_config::LaneConfig;
-use crate::leaving::Leaving;
-use crate::output::OutputState;
-use crate::returns::numbers_back;
+use crate::returned_numbers::numbers_back;
 use crate::worker::Worker;
 use fwd_book::Receipt;
 use fwd_chunks::{AdmitError, Carried, Counts, FlushKind, Report};
 use fwd_model::{Answer, EndKind, Origin, OutputConfig, OwnedSalt, Refusal};
 use fwd_modes::Batch;
+use fwd_output::{Leaving, OutputState};
 use std::alloc::{AllocError, Global};
 use std::marker::Model;
 
@@ -160,7 +160,7 @@ impl Lane {
             → IfErr result (λ error. error ≡ AdmitError.Memory) }
         ensures err { OnErr result (self.new ≡ self.old) }
     {
-        self.output.is_sound();
+        self.output.is_sound(); // for the proof
         self.output.admit(alloc, origin, batch, now)?;
         Ok(())
     }
@@ -223,7 +223,7 @@ impl Lane {
         if place >= self.workers.len() {
             return Ok(Answer::Refused(Refusal::NoSuch));
         }
-        self.output.is_sound();
+        self.output.is_sound(); // for the proof
         if self.workers[place].is_full() {
             return Ok(Answer::Refused(Refusal::NotNow));
         }
@@ -349,7 +349,7 @@ impl Lane {
         ensures kept { evidence_for self.now.output.book.requests self.now.output.book.settled
             ≡ self.now.output.book.settled }
     {
-        self.output.is_sound();
+        self.output.is_sound(); // for the proof
     }
 
     /// The origins of a connection's requests that are owed an answer and whose entries are all
@@ -363,13 +363,13 @@ impl Lane {
     }
 
     /// What is told of the requests of these origins.
-    pub fn telling(&self, alloc: Global, origins: &[Origin]) -> Result<Due, AllocError>
+    pub fn telling(&self, alloc: Global, origins: &[Origin]) -> Result<DueAnswers, AllocError>
         ensures requests { IfOk result (λ due.
             due.requests ≡ map (λ o. o.request) origins.now) }
         ensures out { IfOk result (λ due. due.out ≡ concat
             (map (λ o. ack_asked (chunk_at self.now.output.book.requests o)) origins.now)) }
     {
-        Due::of(alloc, &self.output, origins)
+        DueAnswers::of(alloc, &self.output, origins)
     }
 
     /// Of the requests of these origins those whose entries are all acknowledged are told: they

@@ -2,13 +2,11 @@
 #![tactic(auto)]
 
 mod connection;
-mod due;
+mod due_answers;
 mod lane;
 mod lane_config;
-mod leaving;
-mod output;
 mod relay;
-mod returns;
+mod returned_numbers;
 mod state;
 mod worker;
 
@@ -17,6 +15,5 @@ pub use fwd_model::{
     AckTerms, Answer, Config, EndKind, Event, FlushKind, Numbers, Origin, OutputConfig, OwnedSalt,
     Refusal, SessionFault, SourceFault, unrelated_events_commute,
 };
-pub use leaving::{Leaving, leave};
-pub use output::OutputState;
+pub use fwd_output::{Leaving, OutputState, leave};
 pub use relay::Relay;

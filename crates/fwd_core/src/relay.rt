@@ -92,8 +92,8 @@ impl Relay {
             → result ≢ Answer.Memory }
         ensures fault { IsAtFault self.old event.now → result ≢ Answer.Memory }
     {
-        refusal_changes_nothing();
-        live_follows();
+        refusal_changes_nothing(); // for the proof
+        live_follows(); // for the proof
         waiting_is_new();
         self.state.try_step(alloc, event).unwrap_or(Answer::Memory)
     }
@@ -128,8 +128,8 @@ impl Relay {
             IsDelivered config (es ++ t.before) id r o) }
         ensures err { OnErr result (self.new ≡ self.old) }
     {
-        live_run_follows();
-        told_among_is_delivered();
+        live_run_follows(); // for the proof
+        told_among_is_delivered(); // for the proof
         let mut answers = Vec::with_capacity(alloc, events.len())?;
         for event in events {
             let answer = self.step(alloc, event);
@@ -146,7 +146,7 @@ impl Relay {
         ensures history { IfOk result (λ counts. (h : History) → self.now ≡ live h
             → counts.items ≡ counts_of h) }
     {
-        live_follows();
+        live_follows(); // for the proof
         self.state.counts(alloc)
     }
 
@@ -157,7 +157,7 @@ impl Relay {
         ensures history { IfOk result (λ reports. (config : Settings) (h : History)
             → IsReached config h → self.now ≡ live h → reports.items ≡ reports_of h) }
     {
-        live_follows();
+        live_follows(); // for the proof
         self.state.reports(alloc)
     }
 }

@@ -51,11 +51,10 @@ ghost use Rattle.fwd_core.specs.Lanes.{
 ghost use Rattle.fwd_core.specs.Runs.{is_free, IsBadFor};
 
 use crate::lane_config::LaneConfig;
-use crate::leaving::{Leaving, leave};
-use crate::output::OutputState;
 use fwd_base::Bytes;
 use fwd_chunks::Carried;
 use fwd_model::{Answer, EndKind, OwnedSalt, Refusal};
+use fwd_output::{Leaving, OutputState, leave};
 use fwd_session::{Acked, LoadFailed, Session, SessionHeard, SessionTold, frame_of};
 use std::alloc::{AllocError, Global};
 use std::marker::Model;

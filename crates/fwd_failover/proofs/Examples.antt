@@ -1,7 +1,7 @@
 -- The definitions at work: a primary and a standby, a first
 -- wait of 500 ms and a longest of 4,000 ms.
 use Rattle.std.proofs.Common.{◌≡◌, [], ◌∷◌, true, false, Some, None, refl}
-use Rattle.fwd_retry.specs.Waits.{wait_after}
+use Rattle.fwd_base.specs.Waits.{wait_after}
 use Rattle.fwd_failover.specs.History.{ServersSetting, ServersHistory, Lost, Settled, opening, looked, lost, settled, losses_of}
 use Rattle.fwd_failover.specs.Choices.{primaries, standbys, order_of, choice}
 use Rattle.fwd_failover.specs.Live.{live_servers, live_choice}

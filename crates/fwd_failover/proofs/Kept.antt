@@ -10,7 +10,7 @@ use Rattle.std.proofs.lemmas.List.FromFn.{length-enumerate_from, get_or-enumerat
 use Rattle.fwd_failover.specs.History.{ServersSetting, Happening, Lost, Settled, ServersHistory, opening, looked, lost, settled, losses_of}
 use Rattle.fwd_failover.specs.Choices.{primaries, standbys}
 use Rattle.fwd_failover.specs.Live.{LiveServers, live_servers, with_losses, live_looked, live_lost, live_settled}
-use Rattle.fwd_retry.specs.Tallies.{tally_of, tally_more}
+use Rattle.fwd_base.specs.Tallies.{tally_of, tally_more}
 
 -- ---- a list with something for each server
 

@@ -10,8 +10,8 @@ use Rattle.std.proofs.lemmas.List.Elements.{All-append, All-take, All-drop, All-
 use Rattle.fwd_failover.specs.History.{ServersSetting, ServersHistory, losses_of}
 use Rattle.fwd_failover.specs.Choices.{places, primaries, standbys, round_from, order_of, is_over, is_usable, choice}
 use Rattle.fwd_failover.specs.Live.{LiveServers, live_servers, is_live_usable, live_choice}
-use Rattle.fwd_retry.specs.Tallies.{tally_of, live_is_over}
-use Rattle.fwd_retry.proofs.Doublings.{wait_settles}
+use Rattle.fwd_base.specs.Tallies.{tally_of, live_is_over}
+use Rattle.fwd_base.proofs.Doublings.{wait_settles}
 use Rattle.fwd_failover.proofs.Kept.{kept_at}
 
 -- ---- the numbers in an order are those of servers

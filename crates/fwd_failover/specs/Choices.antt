@@ -2,7 +2,7 @@
 use Rattle.std.specs.Prelude.{ℕ, ◌+◌, ◌%◌, List, [], ◌∷◌, ◌++◌, length, map, filter, find, take, drop, Bool, true, false, nat_le, Option}
 use Rattle.std.specs.List.{enumerate_from}
 use Rattle.std.specs.Bool.{beq}
-use Rattle.fwd_retry.specs.Waits.{wait_after}
+use Rattle.fwd_base.specs.Waits.{wait_after}
 use Rattle.fwd_failover.specs.History.{ServersSetting, Happening, losses_of}
 
 -- ---- the order in which a worker tries them

@@ -2,8 +2,8 @@
 -- it was lost since it last settled, and when last.
 use Rattle.std.specs.Prelude.{ℕ, List, length, map, find, Bool, nat_lt, max, Option, Some, None, slice_index_or, slice_set, if◌then◌else◌}
 use Rattle.std.specs.List.{enumerate_from}
-use Rattle.fwd_retry.specs.declared.losses.Losses.{Losses}
-use Rattle.fwd_retry.specs.Tallies.{tally_of, tally_more, live_is_over}
+use Rattle.fwd_base.specs.declared.losses.Losses.{Losses}
+use Rattle.fwd_base.specs.Tallies.{tally_of, tally_more, live_is_over}
 use Rattle.fwd_failover.specs.History.{ServersSetting, ServersHistory, losses_of}
 use Rattle.fwd_failover.specs.Choices.{primaries, standbys, order_of}
 

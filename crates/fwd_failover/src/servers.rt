@@ -12,7 +12,7 @@ ghost use Rattle.std.specs.Prelude.{
   All,
   find,
 };
-ghost use Rattle.fwd_retry.specs.Waits.{wait_after};
+ghost use Rattle.fwd_base.specs.Waits.{wait_after};
 ghost use Rattle.fwd_failover.specs.History.{
   ServersSetting,
   ServersHistory,
@@ -32,7 +32,7 @@ ghost use Rattle.fwd_failover.specs.Live.{
   is_live_usable,
 };
 
-use fwd_retry::{Losses, Retry};
+use fwd_base::{Losses, Retry};
 use std::alloc::{AllocError, Global};
 use std::marker::Model;
 

@@ -4,10 +4,10 @@ use Rattle.std.specs.IoError.{error_kind}
 use Rattle.std.specs.declared.io.ErrorKind.{ErrorKind}
 use Rattle.std.specs.declared.io.ErrorKind.TheVariants as kind
 use Rattle.std.specs.declared.io.Error.{Error}
-use Rattle.fwd_workers.specs.declared.link.LinkFault.{LinkFault}
-use Rattle.fwd_workers.specs.declared.link.LinkFault.TheVariants as fault
-use Rattle.fwd_workers.specs.declared.link.Read.{Read}
-use Rattle.fwd_workers.specs.declared.link.Read.TheVariants as read
+use Rattle.fwd_environment.specs.declared.link.LinkFault.{LinkFault}
+use Rattle.fwd_environment.specs.declared.link.LinkFault.TheVariants as fault
+use Rattle.fwd_environment.specs.declared.link.Read.{Read}
+use Rattle.fwd_environment.specs.declared.link.Read.TheVariants as read
 
 -- a write failed so: it took no byte where it would have to wait, or is to be made again
 abbrev pub unwritten : ErrorKind → Result ℕ LinkFault

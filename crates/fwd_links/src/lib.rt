@@ -4,20 +4,22 @@
 //! took and gave goes on by just what it answers.
 #![tactic(auto)]
 
-mod answer;
 mod fault;
 mod link;
+mod link_answer;
 mod mailbox;
 mod reserve;
-mod signs;
+mod run_clock;
+mod shared_flags;
+mod system_limits;
 mod unconnected;
 mod waiting;
-mod wants;
 mod wire;
 
 pub use fault::WaitFault;
-pub use link::{TcpHub, TcpLink};
-pub use mailbox::{DeniedLogin, Mailbox, Notice, Notices, RefusedChunk};
-pub use signs::Signs;
+pub use link::TcpHub;
+pub use mailbox::{DeniedLogin, Mailbox, Notices, RefusedChunk, WorkerNotice};
+pub use run_clock::{RunClock, unix_seconds};
+pub use shared_flags::SharedFlags;
+pub use system_limits::lacks_descriptors;
 pub use waiting::{SharedWait, WaitMode, WorkerWait, WorkerWaker};
-pub use wants::lacks_descriptors;

@@ -3,13 +3,14 @@
 ghost use Rattle.std.specs.Prelude.{◌≡◌, [], slice_get, IfOk};
 
 use crate::mailbox::Mailbox;
-use crate::signs::Signs;
+use crate::shared_flags::SharedFlags;
 use crate::unconnected::unconnected;
 use crate::waiting::SharedWait;
 use crate::wire::Wire;
 use fwd_chunks::WriteSlices;
-use fwd_workers::{Hub, Link, LinkFault, Read};
+use fwd_environment::{Hub, Link, LinkFault, Read};
 use std::io;
+use std::marker::Model;
 use std::net::{Net, SocketAddr};
 use std::sync::{Arc, Wait};
 
@@ -24,14 +25,14 @@ impl TcpLink {
     fn begin<N: Net, R: Wait>(
         net: &N,
         rt: &R,
-        signs: Signs,
+        flags: SharedFlags,
         wait: SharedWait,
         addr: SocketAddr,
     ) -> io::Result<TcpLink>
         ensures { IfOk result (λ link. link.wire.calls.list ≡ []) }
     {
         Ok(TcpLink {
-            wire: Wire::begin(net, rt, signs, wait, addr)?,
+            wire: Wire::begin(net, rt, flags, wait, addr)?,
         })
     }
 }
@@ -56,13 +57,22 @@ impl Link for TcpLink {
     }
 }
 
-/// Connects to the servers of an output.
+/// Connects to the servers of an output. In contracts it is where these are reached.
 #[derive(Drop)]
 pub struct TcpHub<'a, N: Net> {
     net: &'a N,
     mailbox: &'a Mailbox,
     wait: &'a SharedWait,
     servers: &'a [SocketAddr],
+}
+
+impl<'a, N: Net> Model for TcpHub<'a, N> {
+    ghost use Rattle.std.specs.Prelude.{List};
+    ghost use Rattle.std.specs.declared.net.socket_addr.SocketAddr.{SocketAddr};
+
+    ghost Value = { List SocketAddr };
+
+    ghost view = { λ hub. hub.servers.now };
 }
 
 impl<'a, N: Net> TcpHub<'a, N> {
@@ -72,7 +82,9 @@ impl<'a, N: Net> TcpHub<'a, N> {
         mailbox: &'a Mailbox,
         wait: &'a SharedWait,
         servers: &'a [SocketAddr],
-    ) -> Self {
+    ) -> Self
+        ensures { result ≡ servers.now }
+    {
         TcpHub {
             net,
             mailbox,
@@ -96,10 +108,10 @@ impl<'a, N: Net> Hub for TcpHub<'a, N> {
         let Some(addr) = server_at(self.servers, server) else {
             return Err(LinkFault::Connect);
         };
-        let (Ok(signs), Ok(wait)) = (self.mailbox.signs().share(), Arc::try_clone(self.wait)) else {
+        let (Ok(flags), Ok(wait)) = (self.mailbox.flags().share(), Arc::try_clone(self.wait)) else {
             return Err(LinkFault::Memory);
         };
-        match TcpLink::begin(self.net, rt, signs, wait, addr) {
+        match TcpLink::begin(self.net, rt, flags, wait, addr) {
             Ok(link) => Ok(link),
             Err(error) => Err(unconnected(&error)),
         }

@@ -3,8 +3,8 @@
 ghost use Rattle.std.specs.Prelude.{◌≡◌, [], false};
 ghost use Rattle.fwd_links.specs.Noting as noting;
 
-use crate::signs::Signs;
-use fwd_workers::{Denial, Refused, WorkerEvent};
+use crate::shared_flags::SharedFlags;
+use fwd_environment::{Denial, Refused, WorkerEvent};
 use mio::Waker;
 use std::alloc::Global;
 use std::mem;
@@ -13,12 +13,12 @@ use std::sync::{Mutex, Wait};
 
 /// What a worker told: at most once a turn.
 #[derive(Clone, Copy)]
-pub struct Notice {
+pub struct WorkerNotice {
     /// The number of the worker's output.
     pub output: u16,
     /// The worker's number.
     pub worker: u16,
-    pub news: WorkerEvent,
+    pub event: WorkerEvent,
 }
 
 /// What a worker told of a chunk that a server seems to refuse.
@@ -38,16 +38,27 @@ pub struct DeniedLogin {
 }
 
 /// What workers told since the reader last asked.
-#[derive(Drop)]
 pub struct Notices {
     /// In the order in which they were told.
-    pub all: Vec<Notice>,
+    pub all: Vec<WorkerNotice>,
     /// The chunks that servers seem to refuse, in that order.
     pub refused: Vec<RefusedChunk>,
     /// Why servers do not let workers in, as they say.
     pub denied: Vec<DeniedLogin>,
     /// Memory was refused for more of them.
     pub missed: bool,
+}
+
+// A drop of its own is proved once, and not at each place where notices go.
+impl Drop for Notices {
+    fn drop(self) {
+        let Notices {
+            all: _,
+            refused: _,
+            denied: _,
+            missed: _,
+        } = self;
+    }
 }
 
 impl Notices {
@@ -66,7 +77,7 @@ impl Notices {
     }
 
     /// A worker told something. Where memory is refused, that is missed.
-    fn note(&mut self, notice: Notice)
+    fn note(&mut self, notice: WorkerNotice)
         ensures { noting.Notes self.old notice self.new }
     {
         if self.all.push(notice).is_err() {
@@ -84,8 +95,7 @@ impl Notices {
 }
 
 /// Where workers tell a reader of the relay what they did, and what wakes it. All mailboxes of a
-/// run share their signs.
-#[derive(Drop)]
+/// run share their flags.
 pub struct Mailbox {
     notices: Mutex<Notices>,
     /// Something was told that the reader has not taken.
@@ -94,31 +104,44 @@ pub struct Mailbox {
     is_asleep: AtomicBool,
     /// Ends the reader's sleep.
     waker: Waker,
-    signs: Signs,
+    flags: SharedFlags,
+}
+
+// A drop of its own is proved once, and not at each place where a mailbox goes.
+impl Drop for Mailbox {
+    fn drop(self) {
+        let Mailbox {
+            notices: _,
+            has_news: _,
+            is_asleep: _,
+            waker: _,
+            flags: _,
+        } = self;
+    }
 }
 
 impl Mailbox {
     /// An empty mailbox, whose reader is woken by this.
-    pub fn new(alloc: Global, waker: Waker, signs: Signs) -> Mailbox {
+    pub fn new(alloc: Global, waker: Waker, flags: SharedFlags) -> Mailbox {
         Mailbox {
             notices: Mutex::new(Notices::none(alloc)),
             has_news: AtomicBool::new(false),
             is_asleep: AtomicBool::new(false),
             waker,
-            signs,
+            flags,
         }
     }
 
     /// A worker tells something, and wakes the reader where that sleeps: only then it costs a call
     /// of the system.
-    pub fn tell<R: Wait>(&self, rt: &R, notice: Notice) {
+    pub fn tell<R: Wait>(&self, rt: &R, notice: WorkerNotice) {
         self.notices.lock(rt).note(notice);
         self.call();
     }
 
     /// The same of a server that is lost, since it did not let the worker in: what it says of that
     /// comes with it. Where memory is refused that is not told.
-    pub fn tell_denied<R: Wait>(&self, rt: &R, notice: Notice, denial: Denial) {
+    pub fn tell_denied<R: Wait>(&self, rt: &R, notice: WorkerNotice, denial: Denial) {
         let output = notice.output;
         let mut guard = self.notices.lock(rt);
         let notices = &mut *guard;
@@ -170,16 +193,16 @@ impl Mailbox {
 
     /// All readers and workers are to end.
     pub fn stop(&self) {
-        self.signs.stop();
+        self.flags.stop();
     }
 
     /// Whether all readers and workers are to end.
     pub fn is_stopped(&self) -> bool {
-        self.signs.is_stopped()
+        self.flags.is_stopped()
     }
 
     /// What readers and workers tell each other without a lock.
-    pub fn signs(&self) -> &Signs {
-        &self.signs
+    pub fn flags(&self) -> &SharedFlags {
+        &self.flags
     }
 }

@@ -1,7 +1,7 @@
 //! Why no connection to a server could be had, as the system says it.
 
-use crate::wants::{lacks_descriptors, lacks_memory};
-use fwd_workers::LinkFault;
+use crate::system_limits::{lacks_descriptors, lacks_memory};
+use fwd_environment::LinkFault;
 use std::io::{Error, ErrorKind};
 
 /// The system knows no way to the server's network (Linux's ENETUNREACH).

@@ -4,7 +4,7 @@ ghost use Rattle.std.specs.Prelude.{◌≡◌, ◌/◌, min, max};
 
 use crate::fault::WaitFault;
 use crate::reserve::Reserve;
-use crate::signs::Signs;
+use crate::shared_flags::SharedFlags;
 use mio::net::TcpStream;
 use mio::{Events, Interest, Poll, Token, Waker};
 use std::alloc::Global;
@@ -191,15 +191,15 @@ impl WorkerWait {
     pub(crate) fn await_connection(
         &mut self,
         stream: &mut TcpStream,
-        signs: &Signs,
+        flags: &SharedFlags,
     ) -> io::Result<()> {
         let registry = self.connecting.registry();
         registry.register(stream, STREAM, Interest::WRITABLE)?;
         for _ in 0..CONNECT_WAIT / PATIENCE {
-            self.refill(signs);
+            self.refill(flags);
             let patience = Duration::from_millis(PATIENCE);
             self.connecting.poll(&mut self.connected, Some(patience))?;
-            if !self.connected.is_empty() || signs.is_stopped() {
+            if !self.connected.is_empty() || flags.is_stopped() {
                 break;
             }
         }
@@ -238,7 +238,7 @@ impl WorkerWait {
 
     /// The same, once it was woken, or its stream has bytes, or for a while. It says whether it was
     /// woken.
-    pub fn wait_for_chunk(&mut self, mode: WaitMode, signs: &Signs) -> bool {
+    pub fn wait_for_chunk(&mut self, mode: WaitMode, flags: &SharedFlags) -> bool {
         if self.turn_to(true) {
             return true;
         }
@@ -248,7 +248,7 @@ impl WorkerWait {
             WaitMode::Idle => (1, LONG_PAUSE),
         };
         if self.is_awaited_for(looks) {
-            self.sleep(pause, signs);
+            self.sleep(pause, flags);
         }
         self.turn_to(true)
     }
@@ -275,8 +275,8 @@ impl WorkerWait {
     }
 
     /// Sleeps so long (milliseconds), unless it is woken before.
-    fn sleep(&mut self, longest: u64, signs: &Signs) {
-        self.refill(signs);
+    fn sleep(&mut self, longest: u64, flags: &SharedFlags) {
+        self.refill(flags);
         self.signal.is_asleep.store(true, Ordering::SeqCst);
         if self.signal.is_awaited.load(Ordering::SeqCst) {
             self.wait(longest);
@@ -296,67 +296,67 @@ impl WorkerWait {
     }
 
     /// Waits a while for the server of a worker that looks for no chunk.
-    pub(crate) fn await_server(&mut self, signs: &Signs) {
+    pub(crate) fn await_server(&mut self, flags: &SharedFlags) {
         if self.is_lacking {
             if self.wait(GRACE) {
                 return;
             }
-            self.refill(signs);
+            self.refill(flags);
         }
         self.wait(PATIENCE);
     }
 
     /// Takes into reserve what is missing there, where that can be had. A worker that waits does
     /// so: it takes no memory until it goes on.
-    pub fn refill(&mut self, signs: &Signs) {
+    pub fn refill(&mut self, flags: &SharedFlags) {
         if self.reserve.is_full() {
             return;
         }
         self.reserve.fill();
         if !self.reserve.is_empty() {
-            self.end_lack(signs);
+            self.end_lack(flags);
         }
     }
 
     /// The worker lacks no memory, or has nothing to do that takes any. Sources that hold
     /// unfinished requests must be read on then, or nobody would give memory back.
-    pub fn end_lack(&mut self, signs: &Signs) {
+    pub fn end_lack(&mut self, flags: &SharedFlags) {
         if self.is_lacking {
             self.is_lacking = false;
-            signs.have();
+            flags.have();
         }
     }
 
     /// Whether memory is refused for the worker's next step, beside what is kept in reserve, or may
     /// be by the time that it is asked for.
-    pub fn is_short(&mut self, signs: &Signs) -> bool {
-        self.is_lacking || signs.is_tight() || !self.reserve.has_step()
+    pub fn is_short(&mut self, flags: &SharedFlags) -> bool {
+        self.is_lacking || flags.is_tight() || !self.reserve.has_step()
     }
 
     /// Gives back what is kept in reserve, once the loop takes no memory for what sources send: it
     /// takes none until the worker waits again, and has its reserve.
-    pub fn give_back(&mut self, signs: &Signs) {
+    pub fn give_back(&mut self, flags: &SharedFlags) {
         if self.is_lacking {
             return;
         }
         self.is_lacking = true;
-        signs.lack();
-        self.await_loop(signs);
+        flags.lack();
+        self.await_loop(flags);
         self.reserve.release();
     }
 
     /// Makes sure of memory for the worker's next step: where it is refused, what is kept in
     /// reserve is given back.
-    pub(crate) fn assure(&mut self, signs: &Signs) {
-        if self.is_short(signs) {
-            self.give_back(signs);
+    pub(crate) fn assure(&mut self, flags: &SharedFlags) {
+        if self.is_short(flags) {
+            self.give_back(flags);
         }
     }
 
     /// Waits until the loop reads nothing, at most `LOOP_WAIT` milliseconds.
-    fn await_loop(&mut self, signs: &Signs) {
+    fn await_loop(&mut self, flags: &SharedFlags) {
         for _ in 0..LOOP_WAIT {
-            if !signs.is_reading() {
+            if !flags.is_reading() {
                 return;
             }
             let pause = Duration::from_millis(1);

@@ -4,13 +4,13 @@ ghost use Rattle.std.specs.Prelude.{◌≡◌, ◌≤◌, ◌∷◌, ◌++◌, [
 ghost use Rattle.std.specs.Io.Slices.{io_slice_bytes, io_slices_bytes};
 ghost use Rattle.std.specs.List.{concat};
 ghost use Rattle.fwd_links.specs.Buffers.{piece_at};
-ghost use Rattle.fwd_workers.specs.Links.{DidWrite, count_read, read_into};
+ghost use Rattle.fwd_environment.specs.Links.{DidWrite, count_read, read_into};
 
-use crate::answer::{given, written};
-use crate::signs::Signs;
+use crate::link_answer::{given, written};
+use crate::shared_flags::SharedFlags;
 use crate::waiting::SharedWait;
 use fwd_chunks::{PIECE_LIMIT, WriteSlices};
-use fwd_workers::{Calls, LinkFault, Read};
+use fwd_environment::{Calls, LinkFault, Read};
 use mio::net::TcpStream;
 use std::io::{ErrorKind, IoSlice, Read as ReadBytes, Write};
 use std::net::{Net, Shutdown, SocketAddr};
@@ -18,8 +18,9 @@ use std::sync::Wait;
 use std::{io, mem};
 
 /// How often a stream is read behind a write before its worker sleeps until the server answers:
-/// some ten microseconds, as one that is at hand takes to answer.
-const READS: u32 = 16;
+/// hardly any server answers sooner, and each further read that finds nothing costs as much as the
+/// sleep that it might spare.
+const READS: u32 = 2;
 
 /// The piece at a place, as a buffer of a write: an empty one where there is none.
 fn buffer<'a>(pieces: &[&'a [u8]], place: usize) -> IoSlice<'a>
@@ -56,7 +57,7 @@ fn has_come(read: Read) -> bool {
 /// sent or got.
 #[derive(Drop)]
 pub(crate) struct Wire {
-    signs: Signs,
+    flags: SharedFlags,
     /// The waits of its worker.
     wait: SharedWait,
     stream: TcpStream,
@@ -75,17 +76,17 @@ impl Wire {
     pub fn begin<N: Net, R: Wait>(
         net: &N,
         rt: &R,
-        signs: Signs,
+        flags: SharedFlags,
         wait: SharedWait,
         addr: SocketAddr,
     ) -> io::Result<Wire>
         ensures { IfOk result (λ wire. wire.calls.list ≡ []) }
     {
         let mut stream = TcpStream::connect(net, addr)?;
-        wait.lock(rt).await_connection(&mut stream, &signs)?;
+        wait.lock(rt).await_connection(&mut stream, &flags)?;
         wait.lock(rt).start(&mut stream)?;
         let mut wire = Wire {
-            signs,
+            flags,
             wait,
             stream,
             is_up: false,
@@ -94,10 +95,10 @@ impl Wire {
             calls: Calls::none(),
         };
         wire.look()?;
-        if !wire.is_up && !wire.signs.is_stopped() {
+        if !wire.is_up && !wire.flags.is_stopped() {
             return Err(io::Error::from(ErrorKind::TimedOut));
         }
-        wire.wait.lock(rt).assure(&wire.signs);
+        wire.wait.lock(rt).assure(&wire.flags);
         Ok(wire)
     }
 
@@ -155,7 +156,7 @@ impl Wire {
                 if *count < room {
                     wait.is_empty_now();
                 }
-                wait.assure(&self.signs);
+                wait.assure(&self.flags);
             }
             Err(error) => {
                 if error.kind() == ErrorKind::WouldBlock {
@@ -194,7 +195,7 @@ impl Wire {
         ensures fault { IfErr result (λ fault. fault ≡ LinkFault.Read) }
         ensures calls { self.new.calls ≡ self.old.calls }
     {
-        if self.signs.is_stopped() && !self.is_shut {
+        if self.flags.is_stopped() && !self.is_shut {
             self.shut();
             return Ok(Read::Nothing);
         }
@@ -213,7 +214,7 @@ impl Wire {
                 return Ok(read);
             }
         }
-        self.wait.lock(rt).await_server(&self.signs);
+        self.wait.lock(rt).await_server(&self.flags);
         if self.look().is_err() {
             return Err(LinkFault::Read);
         }

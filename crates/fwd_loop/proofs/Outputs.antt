@@ -8,11 +8,11 @@ use Rattle.std.proofs.lemmas.List.{length-map}
 use Rattle.fwd_settings.specs.Kinds.{is_within}
 use Rattle.fwd_settings.specs.Ranges.{in_range, relay_in_range, output_in_range}
 use Rattle.fwd_settings.specs.declared.settings.Settings.{Settings}
-use Rattle.fwd_core.specs.Config.{Config}
-use Rattle.fwd_config.specs.Configs.{IsConfig, parts_known, parts_set}
+use Rattle.fwd_model.specs.declared.config.OutputConfig.{OutputConfig}
+use Rattle.fwd_config.specs.Configs.{parts_known, parts_set}
 use Rattle.fwd_settings.specs.declared.settings.OutputSettings.{OutputSettings}
-use Rattle.fwd_routing.specs.declared.output.Output.{Output}
-use Rattle.fwd_loop.specs.Pools.{all_made_of, hop_of, shown, shown_by}
+use Rattle.fwd_reader.specs.declared.output.Output.{Output}
+use Rattle.fwd_pools.specs.Pools.{all_made_of, hop_of, shown, shown_by}
 
 -- settings in their ranges have at most 64
 pub outputs_few : (s : Settings) → in_range s ≡ true → length s.outputs ≤ 64
@@ -23,9 +23,10 @@ outputs_few s h =
     grind (arith, nat_tests)
 
 -- and what they set a relay to has as many
-pub outputs_count : (s : Settings) (config : Config) → IsConfig s config
-    → length config.outputs ≡ length s.outputs
-outputs_count s config is = sym (length-map config.outputs parts_known) ∙ ap length is.outputs ∙ length-map s.outputs parts_set
+pub known_count : (s : Settings) (configs : List OutputConfig)
+    → map parts_known configs ≡ map parts_set s.outputs
+    → length configs ≡ length s.outputs
+known_count s configs is = sym (length-map configs parts_known) ∙ ap length is ∙ length-map s.outputs parts_set
 
 made-each : (ss : List OutputSettings)
     → all_made_of (map parts_set ss) (map hop_of ss) ≡ map shown_by ss
@@ -33,11 +34,11 @@ made-each [] = refl
 made-each (s ∷ ss) = ap (λ xs. shown_by s ∷ xs) (made-each ss)
 
 -- each is made of its own settings
-pub outputs_made : (s : Settings) (config : Config) → IsConfig s config
-    → all_made_of (map parts_known config.outputs) (map hop_of s.outputs)
-    ≡ map shown_by s.outputs
-outputs_made s config is =
-    ap (λ ps. all_made_of ps (map hop_of s.outputs)) is.outputs ∙ made-each s.outputs
+pub known_made : (s : Settings) (configs : List OutputConfig)
+    → map parts_known configs ≡ map parts_set s.outputs
+    → all_made_of (map parts_known configs) (map hop_of s.outputs) ≡ map shown_by s.outputs
+known_made s configs is =
+    ap (λ ps. all_made_of ps (map hop_of s.outputs)) is ∙ made-each s.outputs
 
 -- as many are shown as there are
 pub shown_count : (outputs : List Output) → length outputs ≡ length (map shown outputs)

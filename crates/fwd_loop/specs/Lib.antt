@@ -1,7 +1,8 @@
--- To be believed: Pools, which says what the outputs of a relay are; Draining, what is seen of one
--- that was asked to stop; and Visits, what is known of a source behind a visit.
-pub mod Draining
-pub mod Pools
-pub mod Visits
--- Of the crate below, for those above: Ends, which says how the counts at a run's end fit together.
-pub use Rattle.fwd_routing.specs.Ends
+-- To be believed: Loops, which says what its settings set a relay to. Of the crates below, for those
+-- above: StartFault, why a relay does not start; Ending, why a run ended; Pools, which says what the
+-- outputs of a relay are; and Ends, which says how the counts at a run's end fit together.
+pub mod Loops
+pub use Rattle.fwd_listeners.specs.declared.ending.Ending
+pub use Rattle.fwd_monitors.specs.declared.start_fault.StartFault
+pub use Rattle.fwd_pools.specs.Pools
+pub use Rattle.fwd_reader.specs.Ends

@@ -1,7 +1,10 @@
 //! How many files the process may have open, and how many sources that leaves room for.
 
-use crate::acceptor::MONITORS;
+ghost use Rattle.std.specs.Prelude.{◌≡◌, ◌≤◌, length};
+ghost use Rattle.fwd_loop.specs.Loops.{room_within, workers_in};
+
 use fwd_settings::OutputSettings;
+use fwd_turns::MONITORS;
 use std::alloc::Global;
 use std::rt::Files;
 use std::{fs, str};
@@ -12,15 +15,15 @@ const LIMITS: &str = "/proc/self/limits";
 /// What the line begins with that tells how many files it may have open.
 const NAME: &str = "Max open files";
 
-/// The files that a relay has open beside its sources, monitors and workers: the standard streams,
-/// the listeners, what it waits with, and some to spare.
-const OWN: u64 = 16;
+/// The files that a relay has open beside its sources, monitors, readers and workers: the standard
+/// streams, the listeners, and some to spare.
+const OWN: u64 = 14;
 
 /// The files of a worker at most: three that it waits with, its link, and one more while it
 /// connects to another server.
 const WORKER: u64 = 5;
 
-/// The files of a reader beside the first: what it waits with, and what wakes it.
+/// The files of a reader: what it waits with, and what wakes it.
 const READER: u64 = 2;
 
 /// How many files the process may have open, where the system tells and there is a limit.
@@ -36,12 +39,21 @@ fn limit_in(text: &str) -> Option<u64> {
     soft.parse().ok()
 }
 
-/// How many sources at most so many files leave room for, beside so many readers other than the
-/// first and the workers of these outputs: one at least.
-pub(crate) fn sources_within(files: u64, others: u64, outputs: &[OutputSettings]) -> u64 {
-    let mut own = (OWN + MONITORS as u64).saturating_add(READER.saturating_mul(others));
-    for output in outputs {
-        own = own.saturating_add(WORKER * u64::from(output.workers));
-    }
+/// How many workers these outputs have.
+fn workers_in(outputs: &[OutputSettings]) -> u64
+    requires { length outputs.now ≤ 64 }
+    ensures { result ≡ workers_in outputs.now }
+{
+    outputs.iter().map(|output| u64::from(output.workers)).sum()
+}
+
+/// How many sources at most so many files leave room for, beside so many readers and the workers of
+/// these outputs: one at least.
+pub(crate) fn sources_within(files: u64, readers: u16, outputs: &[OutputSettings]) -> u64
+    requires { length outputs.now ≤ 64 }
+    ensures { result ≡ room_within files readers outputs.now }
+{
+    let workers = WORKER.saturating_mul(workers_in(outputs));
+    let own = (OWN + MONITORS as u64 + READER * u64::from(readers)).saturating_add(workers);
     files.saturating_sub(own).max(1)
 }

@@ -1,14 +1,13 @@
 //! What a run came to.
 
 ghost use Rattle.std.specs.Prelude.{◌≡◌, length, All, IfOk};
-ghost use Rattle.fwd_routing.specs.Ends.{AddUp};
+ghost use Rattle.fwd_reader.specs.Ends.{AddUp};
 
-use crate::control::Control;
-use crate::control_text::ControlAnswer;
-use crate::draining::{Ending, ending_of, left_in};
-use crate::fault::StartFault;
 use fwd_chunks::Report;
-use fwd_routing::{Output, reports_of};
+use fwd_listeners::{Control, ControlAnswer, Ending, ending_of, left_in};
+use fwd_monitors::StartFault;
+use fwd_peers::SocketPath;
+use fwd_reader::{Output, reports_of};
 use std::alloc::{AllocError, Global};
 use std::sync::Wait;
 
@@ -21,11 +20,13 @@ pub struct Outcome {
     pub ending: Ending,
 }
 
-/// A run that ended: what it came to, and who asked it to stop, if it can be asked.
+/// A run that ended: what it came to, who asked it to stop, if it can be asked, and the path of the
+/// closed socket where sources connected, if that had one.
 #[derive(Drop)]
 pub(crate) struct Ended {
     pub outcome: Result<Outcome, StartFault>,
     pub control: Option<Control>,
+    pub path: Option<SocketPath>,
 }
 
 impl Outcome {

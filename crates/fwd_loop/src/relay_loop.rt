@@ -1,48 +1,37 @@
 //! The relay over sockets.
 
-ghost use Rattle.std.specs.Prelude.{◌≡◌, ◌≤◌, [], length, map, true, All, IfOk};
+ghost use Rattle.std.specs.Prelude.{◌≡◌, ◌≤◌, length, map, true, All, IfOk};
 ghost use Rattle.fwd_config.specs.Configs.{parts_known};
 ghost use Rattle.fwd_settings.specs.Ranges.{in_range};
-ghost use Rattle.fwd_loop.specs.Pools.{all_made_of, hop_of, shown, shown_by, waits};
-ghost use Rattle.fwd_routing.specs.Ends.{AddUp};
+ghost use Rattle.fwd_loop.specs.Loops.{relay_by};
+ghost use Rattle.fwd_pools.specs.Pools.{all_made_of, shown};
+ghost use Rattle.fwd_reader.specs.Ends.{AddUp};
 
-use crate::acceptor::{Acceptor, SourceSetup};
-use crate::control::{Control, ControlPath, path_of};
-use crate::draining::Ending;
-use crate::event_loop::{EventLoop, MONITORS, SOURCES, WAKER};
-use crate::fault::StartFault;
 use crate::files::{most_files, sources_within};
-use crate::listener::Listener;
-use crate::loop_memory::LoopMemory;
+use crate::opening::{Opened, Own, Shared, open};
 use crate::outcome::{Ended, Outcome};
 use crate::platform::Platform;
-use crate::random_streams::RandomStreams;
-use crate::reader::ReaderParts;
-use crate::readers::{EventQueue, ReaderDesk};
+use crate::set_parts::{SetParts, parts_of, run_id_of};
 use crate::threads::{Beside, Started};
-use crate::turns::{Opened, Own, Shared, Turns, close_all, open};
-use crate::worker_pools::{NextHop, RunOrigin, WorkerPools};
 use fwd_base::Text;
 use fwd_chunks::Report;
-use fwd_config::config_of;
-use fwd_core::{Config, OutputConfig};
-use fwd_links::{Mailbox, Signs};
+use fwd_links::{Mailbox, SharedFlags};
+use fwd_listeners::{Ending, make_room};
 use fwd_match::Routes;
-use fwd_routing::{Connections, Observer, Output, PageDesk, SharedTally};
-use fwd_settings::{OutputSettings, ServerSettings, Settings, WhenFull};
-use mio::{Events, Poll, Waker};
-use std::alloc::{AllocError, Global};
+use fwd_monitors::{Observer, PageQueue, SharedTally, StartFault};
+use fwd_peers::{PeerAddress, SocketPath};
+use fwd_pools::{RandomStreams, RunOrigin, WorkerPools, pools_of};
+use fwd_reader::{FlushTimer, Output, ReaderInbox, ReaderInboxes, tally_of};
+use fwd_settings::{ListenAddress, Settings};
+use fwd_turns::{
+    EventLoop, EventQueue, ListenConfig, ReaderLimits, ReaderParts, SourceSetup, Turns, close_all,
+};
+use std::alloc::Global;
 use std::marker::Model;
-use std::net::{Net, SocketAddr};
+use std::net::Net;
 use std::rt::{Clock, Files};
-use std::sync::{Arc, Wait};
+use std::sync::Wait;
 use std::thread;
-
-/// The most bytes that a connection is read in a turn.
-const PIECE: usize = 65_536;
-
-/// How many events a wait tells at once. More are told by the next.
-const EVENTS: usize = 1_024;
 
 /// So many bytes are asked for and given back at the start. The C library gives a larger piece than
 /// any that it was given back before to the system at once, and takes pages for the next one anew,
@@ -51,302 +40,255 @@ const EVENTS: usize = 1_024;
 const LARGEST_KEPT: usize = 4 << 20;
 
 /// The relay, with its listeners open, before its first turn. In contracts it is what each of its
-/// outputs is.
-#[derive(Drop)]
+/// outputs is, and by which patterns requests go to them.
 pub struct Loop {
     alloc: Global,
     shared: Shared,
     own: Own,
 }
 
+// A drop of its own is proved once, and not at each place where a relay goes.
+impl Drop for Loop {
+    fn drop(self) {
+        let Loop {
+            alloc: _,
+            shared: _,
+            own: _,
+        } = self;
+    }
+}
+
 impl Model for Loop {
-    ghost use Rattle.std.specs.Prelude.{List, map};
-    ghost use Rattle.fwd_loop.specs.Pools.{OutputShown, shown};
+    ghost use Rattle.std.specs.Prelude.{map};
+    ghost use Rattle.fwd_loop.specs.Loops.{LoopShown};
+    ghost use Rattle.fwd_pools.specs.Pools.{shown};
 
-    ghost Value = { List OutputShown };
+    ghost Value = { LoopShown };
 
-    ghost view = { λ relay. map shown relay.shared.outputs.items };
+    ghost view = { λ relay. record {
+      outputs = map shown relay.shared.outputs.items;
+      routes = relay.shared.routes;
+    } };
 }
 
 /// Where the relay listens, how many sources it takes, and how many readers.
 #[derive(Clone, Copy)]
 struct Address {
-    listen: SocketAddr,
-    monitor: Option<SocketAddr>,
-    /// Monitors are served the metrics page.
-    has_metrics: bool,
-    connections: u64,
-    /// There are several outputs.
-    has_other_outputs: bool,
-    /// How many files the process may have open, where that leaves fewer than are set.
-    few_files: Option<u64>,
-    /// How many readers there are beside the first.
-    others: usize,
+    listen: ListenConfig,
+    readers: usize,
     each: ReaderLimits,
-}
-
-/// What each reader does about its sources.
-#[derive(Clone, Copy)]
-struct ReaderLimits {
-    /// How long a source has to be silent that gives its place to a new one (milliseconds), if any
-    /// does.
-    idle_limit: Option<u64>,
-    /// How many sources take no place whose other side is gone, and of which requests are kept.
-    kept: u64,
 }
 
 /// Where a relay of these settings listens, how many sources it takes: as many as are set, or as
 /// many as the process may have files open for; and how many readers it has.
-fn address_of<R: Files + AllocGlobal>(rt: &R, settings: &Settings) -> Address {
+#[tactic(auto, using(crate::proofs::Outputs::outputs_few))]
+fn address_of<R: Files + AllocGlobal>(rt: &R, settings: &Settings) -> Address
+    requires { in_range settings.now ≡ true }
+{
     let relay = &settings.relay;
     let asked = u64::from(relay.connections);
-    let others = u64::from(relay.readers).saturating_sub(1);
+    let readers = u64::from(relay.readers);
     let files = most_files(rt);
     let outputs = settings.outputs.as_slice();
     let most = match files {
-        Some(files) => sources_within(files, others, outputs),
+        Some(files) => sources_within(files, relay.readers, outputs),
         None => asked.saturating_mul(2),
     };
     Address {
-        listen: relay.listen,
-        monitor: relay.monitor,
-        has_metrics: relay.metrics,
-        connections: asked.min(most),
-        has_other_outputs: outputs.len() > 1,
-        few_files: if most < asked { files } else { None },
-        others: others as usize,
+        listen: ListenConfig {
+            listen: listen_of(&relay.listen),
+            monitor: relay.monitor,
+            has_metrics: relay.metrics,
+            connections: asked.min(most),
+            has_other_outputs: outputs.len() > 1,
+            few_files: if most < asked { files } else { None },
+        },
+        readers: readers as usize,
         each: ReaderLimits {
             idle_limit: relay.idle_limit,
-            kept: most.saturating_sub(asked).min(asked) / (others + 1),
+            kept: most
+                .saturating_sub(asked)
+                .min(asked)
+                .checked_div(readers)
+                .unwrap_or(0),
         },
     }
 }
 
+/// Where sources connect, by the settings.
+fn listen_of(listen: &ListenAddress) -> PeerAddress {
+    match listen {
+        ListenAddress::Tcp(address) => PeerAddress::Tcp(*address),
+        ListenAddress::Unix(path) => PeerAddress::Unix(SocketPath::of(path.as_str())),
+    }
+}
+
 /// The path of the control socket, if the settings name one.
-fn control_path_of(settings: &Settings) -> Option<ControlPath> {
+fn control_path_of(settings: &Settings) -> Option<SocketPath> {
     let path = settings.relay.control.as_ref()?;
-    Some(path_of(path.as_str()))
+    Some(SocketPath::of(path.as_str()))
 }
 
-/// Where the servers of each output are reached, and whether sources wait where it is full.
-fn next_hops_of(alloc: Global, outputs: &[OutputSettings]) -> Result<Vec<NextHop>, AllocError>
-    ensures { IfOk result (λ hops. hops.items ≡ map hop_of outputs.now) }
-{
-    let mut all = Vec::with_capacity(alloc, outputs.len())?;
-    for output in outputs {
-        all.push(next_hop_of(alloc, output)?)?;
-    }
-    Ok(all)
-}
-
-/// Where servers are reached.
-fn addresses_of(alloc: Global, servers: &[ServerSettings]) -> Result<Vec<SocketAddr>, AllocError>
-    ensures { IfOk result (λ list. list.items ≡ map (λ s. s.address) servers.now) }
-{
-    servers.iter().map(|server| server.address).collect(alloc)
-}
-
-/// Whether sources wait where an output is full.
-fn is_patient(full: WhenFull) -> bool
-    ensures { result ≡ waits full }
-{
-    match full {
-        WhenFull::Close => false,
-        WhenFull::Wait => true,
-    }
-}
-
-/// Where the servers of an output are reached, and whether sources wait where it is full.
-fn next_hop_of(alloc: Global, output: &OutputSettings) -> Result<NextHop, AllocError>
-    ensures { IfOk result (λ hop. hop ≡ hop_of output.now) }
-{
-    let servers = addresses_of(alloc, output.servers.as_slice())?;
-    let is_patient = is_patient(output.full);
-    Ok(NextHop {
-        servers,
-        is_patient,
-    })
-}
-
-/// The outputs with their next hops and workers.
-fn pools_of<R: Net>(
-    rt: &R,
-    mut pools: WorkerPools,
-    run: RunOrigin<'_>,
-    configs: Vec<OutputConfig>,
-    hops: Vec<NextHop>,
-) -> Result<WorkerPools, StartFault>
-    requires none { pools.outputs.items ≡ [] }
-    requires each { length hops.items ≡ length configs.items }
-    requires few { length configs.items ≤ 64 }
-    ensures count { IfOk result (λ pools. length pools.outputs.items ≡ length configs.items) }
-    ensures made { IfOk result (λ pools. map shown pools.outputs.items
-        ≡ all_made_of (map parts_known configs.items) hops.items) }
-{
-    let mut configs = configs.into_iter();
-    let mut hops = hops.into_iter();
-    while let (Some(config), Some(next)) = (configs.next(), hops.next()) {
-        let number = pools.outputs.len() as u16;
-        pools.add(rt, run, number, config, next)?;
-    }
-    Ok(pools)
-}
-
-/// What tells a reader that waits for this poll.
-fn mailbox_of(alloc: Global, poll: &Poll, signs: &Signs) -> Result<Mailbox, StartFault> {
-    let waker = Waker::new(poll.registry(), WAKER).map_err(|_| StartFault::Poll)?;
-    Ok(Mailbox::new(alloc, waker, signs.share()?))
-}
-
-/// A reader's loop before its first turn, without listeners, and what it is told by.
-fn event_loop_of<R: Net>(
-    rt: &R,
-    alloc: Global,
-    signs: &Signs,
-    limits: ReaderLimits,
-) -> Result<(EventLoop, Mailbox), StartFault> {
-    let events = Events::with_capacity(alloc, EVENTS)?;
-    let room = vec![in alloc; 0; PIECE]?;
-    let memory = LoopMemory::new(signs.share()?);
-    let poll = Poll::new(rt).map_err(|_| StartFault::Poll)?;
-    let mailbox = mailbox_of(alloc, &poll, signs)?;
-    let event_loop = EventLoop {
-        alloc,
-        poll,
-        events,
-        room,
-        acceptor: None,
-        control: None,
-        connections: Connections::new(alloc, limits.kept as usize),
-        idle_limit: limits.idle_limit,
-        was_at_work: false,
-        memory,
-    };
-    Ok((event_loop, mailbox))
-}
-
-/// The listeners, which the first reader waits for.
-fn acceptor_of<R: Net>(
-    rt: &R,
-    alloc: Global,
-    poll: &Poll,
-    address: Address,
-    setup: SourceSetup,
-) -> Result<Acceptor, StartFault> {
-    let sources = Listener::open(rt, poll, address.listen, SOURCES)?;
-    let monitors = match address.monitor {
-        Some(monitor) => Some(Listener::open(rt, poll, monitor, MONITORS)?),
-        None => None,
-    };
-    Ok(Acceptor {
-        sources,
-        monitors,
-        has_metrics: address.has_metrics,
-        setup,
-        next_id: Some(1),
-        limit: address.connections as usize,
-        has_other_outputs: address.has_other_outputs,
-        handed: vec![in alloc; 0; address.others]?,
-        none_idle: None,
-        few_files: address.few_files,
-    })
-}
-
-/// The first reader's loop, with the listeners, what it is told by, and the signs of its relay.
+/// The loop of the reader in front, with the listeners, what it is told by, and the flags of its
+/// relay.
 #[derive(Drop)]
-struct FirstReader {
-    signs: Signs,
+struct FrontLoop {
+    flags: SharedFlags,
     event_loop: EventLoop,
     mailbox: Mailbox,
 }
 
-/// The first reader before its first turn.
-fn first_reader<R: Net>(
+/// The loop of the reader in front before its first turn.
+fn front_loop<R: Net + Files>(
     rt: &R,
     alloc: Global,
     address: Address,
     setup: SourceSetup,
-) -> Result<FirstReader, StartFault> {
-    let signs = Signs::new(alloc)?;
-    let (mut event_loop, mailbox) = event_loop_of(rt, alloc, &signs, address.each)?;
-    event_loop.acceptor = Some(acceptor_of(rt, alloc, &event_loop.poll, address, setup)?);
-    Ok(FirstReader {
-        signs,
+) -> Result<FrontLoop, StartFault> {
+    let flags = SharedFlags::new(alloc)?;
+    let (mut event_loop, mailbox) = EventLoop::new(rt, alloc, &flags, address.each)?;
+    event_loop.listen(rt, address.listen, setup)?;
+    Ok(FrontLoop {
+        flags,
         event_loop,
         mailbox,
     })
 }
 
-/// The readers beside the first: what they are told by, and what each has of its own.
+/// The readers that are not in front: what each is told by, and what it has of its own.
 struct OtherReaders {
-    desks: Vec<ReaderDesk>,
+    inboxes: Vec<ReaderInbox>,
     others: Vec<ReaderParts>,
 }
 
-/// The readers of these outputs beside the first.
-fn other_readers<R: Net>(
+/// A reader of these outputs that is not in front: what it has of its own, and what it is told by.
+fn other_reader<R: Net>(
     rt: &R,
-    alloc: Global,
-    signs: &Signs,
+    flags: &SharedFlags,
     pools: &WorkerPools,
     limits: ReaderLimits,
+) -> Result<(ReaderParts, ReaderInbox), StartFault> {
+    let timers = pools.timers()?;
+    let (event_loop, mailbox) = EventLoop::new(rt, pools.alloc, flags, limits)?;
+    let inbox = ReaderInbox::new(pools.alloc, mailbox);
+    Ok((ReaderParts { event_loop, timers }, inbox))
+}
+
+/// The readers of these outputs that are not in front.
+fn other_readers<R: Net>(
+    rt: &R,
+    flags: &SharedFlags,
+    pools: &WorkerPools,
+    address: Address,
 ) -> Result<OtherReaders, StartFault> {
-    let mut desks = Vec::new(alloc);
+    let alloc = pools.alloc;
+    let mut inboxes = Vec::new(alloc);
     let mut others = Vec::new(alloc);
-    for _ in 0..pools.others() {
-        let (event_loop, mailbox) = event_loop_of(rt, alloc, signs, limits)?;
-        desks.push(ReaderDesk::new(alloc, mailbox))?;
-        let timers = pools.timers()?;
-        others.push(ReaderParts { event_loop, timers })?;
+    for _ in 1..address.readers {
+        let (parts, inbox) = other_reader(rt, flags, pools, address.each)?;
+        inboxes.push(inbox)?;
+        others.push(parts)?;
     }
-    Ok(OtherReaders { desks, others })
+    Ok(OtherReaders { inboxes, others })
+}
+
+/// What a relay of these outputs has beside: what it counts, the timers of the reader in front, and
+/// the other readers.
+struct BesideOutputs {
+    tally: SharedTally,
+    timers: Vec<FlushTimer>,
+    readers: OtherReaders,
+}
+
+/// What a relay of these outputs has beside.
+fn beside_outputs<R: Net>(
+    rt: &R,
+    flags: &SharedFlags,
+    pools: &WorkerPools,
+    address: Address,
+) -> Result<BesideOutputs, StartFault> {
+    let tally = tally_of(pools.alloc, &pools.outputs, address.listen.has_metrics)?;
+    let timers = pools.timers()?;
+    let readers = other_readers(rt, flags, pools, address)?;
+    Ok(BesideOutputs {
+        tally,
+        timers,
+        readers,
+    })
 }
 
 /// The relay of these outputs and their workers, with all its readers.
 fn loop_of<R: Net>(
     rt: &R,
-    first: FirstReader,
+    front: FrontLoop,
     pools: WorkerPools,
     address: Address,
     routes: Routes,
 ) -> Result<Loop, StartFault>
-    ensures { IfOk result (λ relay. relay ≡ map shown pools.outputs.items) }
+    ensures { IfOk result (λ relay. relay
+        ≡ record { outputs = map shown pools.outputs.items; routes = routes }) }
 {
     let alloc = pools.alloc;
-    let tally = SharedTally::new(alloc, &pools.outputs, address.has_metrics)?;
-    let timers = pools.timers()?;
-    let OtherReaders { desks, others } = other_readers(
-        rt,
-        alloc,
-        &first.signs,
-        &pools,
-        address.each,
-    )?;
-    let FirstReader {
-        signs: _,
+    let BesideOutputs {
+        tally,
+        timers,
+        readers: OtherReaders { inboxes, others },
+    } = beside_outputs(rt, &front.flags, &pools, address)?;
+    let FrontLoop {
+        flags,
         event_loop,
         mailbox,
-    } = first;
+    } = front;
     let WorkerPools {
         outputs,
         workers,
         ..
     } = pools;
     let shared = Shared {
+        flags,
         routes,
         outputs,
-        mailbox,
-        desks,
+        inboxes: ReaderInboxes {
+            front: ReaderInbox::new(alloc, mailbox),
+            others: inboxes,
+        },
         journal_events: EventQueue::new(alloc),
         tally,
-        pages: PageDesk::new(),
+        pages: PageQueue::new(),
     };
     let own = Own {
-        first: ReaderParts { event_loop, timers },
+        front: ReaderParts { event_loop, timers },
         others,
         workers,
     };
     Ok(Loop { alloc, shared, own })
+}
+
+/// The relay of these parts.
+fn relay_of<R: Net + Files + AllocGlobal>(
+    rt: &R,
+    address: Address,
+    run: RunOrigin<'_>,
+    parts: SetParts,
+) -> Result<Loop, StartFault>
+    requires each { length parts.hops.items ≡ length parts.outputs.items }
+    requires few { length parts.outputs.items ≤ 64 }
+    ensures { IfOk result (λ relay. relay ≡ record {
+      outputs = all_made_of (map parts_known parts.outputs.items) parts.hops.items;
+      routes = parts.routes;
+    }) }
+{
+    let alloc = rt.alloc();
+    let SetParts {
+        source,
+        routes,
+        outputs,
+        hops,
+    } = parts;
+    let front = front_loop(rt, alloc, address, source)?;
+    let none = WorkerPools::new(alloc, address.readers);
+    let pools = pools_of(rt, none, run, outputs, hops)?;
+    loop_of(rt, front, pools, address, routes)
 }
 
 /// Asks for a large piece of memory, and gives it back.
@@ -364,7 +306,7 @@ impl Loop {
     /// `Memory`.
     pub fn new<R: Net + Files + AllocGlobal>(rt: &R, settings: Settings) -> Result<Loop, StartFault>
         requires { in_range settings ≡ true }
-        ensures { IfOk result (λ relay. relay ≡ map shown_by settings.outputs) }
+        ensures { IfOk result (λ relay. relay ≡ relay_by settings) }
     {
         let control = control_path_of(&settings);
         let relay = Loop::without_control(rt, settings)?;
@@ -375,13 +317,11 @@ impl Loop {
     }
 
     /// The same relay, which can be asked to stop over a socket of this path.
-    fn with_control<R: Net + Files>(self, rt: &R, path: ControlPath) -> Result<Loop, StartFault>
+    fn with_control<R: Net + Files>(self, rt: &R, path: SocketPath) -> Result<Loop, StartFault>
         ensures { IfOk result (λ relay. relay ≡ self) }
     {
         let mut relay = self;
-        let event_loop = &mut relay.own.first.event_loop;
-        let control = Control::open(rt, relay.alloc, &event_loop.poll, path)?;
-        event_loop.control = Some(control);
+        relay.own.front.event_loop.listen_control(rt, path)?;
         Ok(relay)
     }
 
@@ -400,37 +340,19 @@ impl Loop {
         settings: Settings,
     ) -> Result<Loop, StartFault>
         requires { in_range settings ≡ true }
-        ensures { IfOk result (λ relay. relay ≡ map shown_by settings.outputs) }
+        ensures { IfOk result (λ relay. relay ≡ relay_by settings) }
     {
         let alloc = rt.alloc();
         take_large_piece(alloc);
         let address = address_of(rt, &settings);
         let random = RandomStreams::new(rt, settings.relay.seed)?;
-        let id = match settings.relay.run_id {
-            Some(id) => id,
-            None => random.run_id(),
-        };
-        let hops = next_hops_of(alloc, settings.outputs.as_slice())?;
-        let Config {
-            run: _,
-            routes,
-            security,
-            limits,
-            outputs,
-        } = config_of(alloc, settings)?;
-        let setup = SourceSetup {
-            security: Arc::new(alloc, security)?,
-            limits,
-            nonces: random.nonces(),
-        };
-        let first = first_reader(rt, alloc, address, setup)?;
-        let none = WorkerPools::new(alloc, address.others);
+        let id = run_id_of(settings.relay.run_id, &random);
+        let parts = parts_of(alloc, settings, &random)?;
         let run = RunOrigin {
             random: &random,
             id,
         };
-        let pools = pools_of(rt, none, run, outputs.into_vec(), hops)?;
-        loop_of(rt, first, pools, address, routes)
+        relay_of(rt, address, run, parts)
     }
 
     /// Opens the relay, so that its turns are made one by one, and its workers are run beside them
@@ -440,7 +362,7 @@ impl Loop {
         open(rt, self.alloc, &self.shared, &mut self.own)
     }
 
-    /// Runs the first reader for so many turns in this thread, and each other reader and each
+    /// Runs the reader in front for so many turns in this thread, and each other reader and each
     /// worker for as many in a thread of its own, and answers what each output has to do with once
     /// all have ended, in the settings' order. Whoever still waits for an acknowledgement by then
     /// is told, if its request's entries are settled.
@@ -448,7 +370,7 @@ impl Loop {
     /// It fails with `Thread` where the thread of a reader or worker cannot be had, with `Poll`
     /// where a wait failed, and with `Memory`. All threads that were started have ended then, too.
     pub fn run<R: Platform>(self, rt: &R, turns: u64) -> Result<Vec<Report>, StartFault>
-        ensures count { IfOk result (λ reports. length reports.items ≡ length self) }
+        ensures count { IfOk result (λ reports. length reports.items ≡ length self.outputs) }
         ensures add_up { IfOk result (λ reports. AddUp reports.items) }
     {
         self.run_watched(rt, &mut (), turns)
@@ -461,12 +383,13 @@ impl Loop {
         observer: &mut W,
         count: u64,
     ) -> Result<Vec<Report>, StartFault>
-        ensures count { IfOk result (λ reports. length reports.items ≡ length self) }
+        ensures count { IfOk result (λ reports. length reports.items ≡ length self.outputs) }
         ensures add_up { IfOk result (λ reports. AddUp reports.items) }
     {
         let Ended {
             outcome,
             control: _,
+            path: _,
         } = self.run_apart(rt, observer, count);
         match outcome {
             Ok(outcome) => Ok(outcome.reports),
@@ -476,19 +399,26 @@ impl Loop {
 
     /// The same, and it answers why the run ended, too. It ends sooner where it is asked to stop:
     /// once all is delivered and told, or the time is over. Whoever asked is told what came of it,
-    /// and the control socket is removed.
+    /// and the files of its sockets are removed.
     pub fn run_to_end<R: Platform + Files, W: Observer>(
         self,
         rt: &R,
         observer: &mut W,
         count: u64,
     ) -> Result<Outcome, StartFault>
-        ensures count { IfOk result (λ o. length o.reports.items ≡ length self) }
+        ensures count { IfOk result (λ o. length o.reports.items ≡ length self.outputs) }
         ensures add_up { IfOk result (λ o. AddUp o.reports.items) }
         ensures delivered { IfOk result (λ o. o.ending ≡ Ending.Delivered
             → All (λ report. report.counts.held ≡ 0) o.reports.items) }
     {
-        let Ended { outcome, control } = self.run_apart(rt, observer, count);
+        let Ended {
+            outcome,
+            control,
+            path,
+        } = self.run_apart(rt, observer, count);
+        if let Some(path) = path {
+            make_room(rt, path.as_str());
+        }
         if let Some(control) = control {
             let answer = match &outcome {
                 Ok(outcome) => Some(outcome.answer()),
@@ -502,7 +432,7 @@ impl Loop {
     /// The same, and it hands on who asked it to stop, and is not told yet.
     #[tactic(auto, using(crate::proofs::Outputs::shown_count))]
     fn run_apart<R: Platform, W: Observer>(self, rt: &R, observer: &mut W, count: u64) -> Ended
-        ensures count { IfOk result.outcome (λ o. length o.reports.items ≡ length self) }
+        ensures count { IfOk result.outcome (λ o. length o.reports.items ≡ length self.outputs) }
         ensures add_up { IfOk result.outcome (λ o. AddUp o.reports.items) }
         ensures delivered { IfOk result.outcome (λ o. o.ending ≡ Ending.Delivered
             → All (λ report. report.counts.held ≡ 0) o.reports.items) }
@@ -516,8 +446,13 @@ impl Loop {
             Ok(was_asked) => outcome_of(rt, alloc, &shared.outputs, was_asked),
             Err(fault) => Err(fault),
         };
-        let control = own.first.event_loop.control.take();
-        Ended { outcome, control }
+        let control = own.front.event_loop.take_control();
+        let path = own.front.event_loop.source_path();
+        Ended {
+            outcome,
+            control,
+            path,
+        }
     }
 }
 
@@ -574,25 +509,38 @@ fn serve<R: Platform, W: Observer>(
 ) -> Result<(), StartFault> {
     thread::scope(thread::scope_env(), rt, move |scope| {
         let mut started = Started::with_room_for(rt.alloc(), &beside)?;
-        let mut served = started.start(scope, rt, beside, count);
+        let begun = started.start(scope, rt, beside, count);
         // Behind the workers: a relay does without it where there is no room for one thread more.
         let maker = turns.page_maker();
         if let Some(maker) = maker {
-            if let Ok(child) = scope.spawn(move || maker.work(rt)) {
-                started.keep(child);
+            if started.start_pages(scope, rt, maker) {
                 turns.order_pages();
             }
         }
-        if served.is_ok() {
-            served = turns.run(rt, observer, count);
-        }
-        if served.is_err() || turns.is_drained() {
-            turns.stop();
-        }
+        let served = serve_front(rt, turns, begun, observer, count);
         if let Some(maker) = maker {
             maker.stop(rt);
         }
         let ended = started.join(rt);
         served.and(ended)
     })
+}
+
+/// Makes so many turns in this thread, if those beside it could begin; and has them end where it
+/// failed, or the relay has nothing left to do.
+fn serve_front<R: Platform, W: Observer>(
+    rt: &R,
+    turns: &mut Turns<'_, R>,
+    begun: Result<(), StartFault>,
+    observer: &mut W,
+    count: u64,
+) -> Result<(), StartFault> {
+    let mut served = begun;
+    if served.is_ok() {
+        served = turns.run_watched(rt, observer, count);
+    }
+    if served.is_err() || turns.is_drained() {
+        turns.stop();
+    }
+    served
 }

@@ -1,14 +1,15 @@
-//! The threads of a relay beside its first reader's.
+//! The threads of a relay beside that of its reader in front.
 
-use crate::fault::StartFault;
+use crate::opening::WorkerTurns;
 use crate::platform::Platform;
-use crate::turns::{ReaderTurns, WorkerTurns};
+use fwd_monitors::StartFault;
+use fwd_turns::{PageMaker, Turns};
 use std::alloc::{AllocError, Global};
 use std::rt::Clock;
 use std::sync::Wait;
 use std::thread::{JoinHandle, Scope, Threads};
 
-/// What works beside the first reader, each in a thread of its own.
+/// What works beside the reader in front, each in a thread of its own.
 #[derive(Drop)]
 pub struct Beside<'x, 'a, R: Clock> {
     workers: Vec<WorkerTurns<'a>>,
@@ -20,7 +21,7 @@ impl<'x, 'a, R: Wait + Clock> Beside<'x, 'a, R> {
     pub fn new(
         alloc: Global,
         workers: Vec<WorkerTurns<'a>>,
-        others: &'x mut Vec<ReaderTurns<'a, R>>,
+        others: &'x mut Vec<Turns<'a, R>>,
     ) -> Result<Beside<'x, 'a, R>, AllocError> {
         let mut readers = Vec::with_capacity(alloc, others.len())?;
         let all = others.iter_mut();
@@ -31,10 +32,10 @@ impl<'x, 'a, R: Wait + Clock> Beside<'x, 'a, R> {
     }
 }
 
-/// What a thread of a reader beside the first works on.
+/// What a thread of a reader that is not in front works on.
 #[derive(Drop)]
 struct ReaderThread<'x, 'a, R: Clock> {
-    turns: &'x mut ReaderTurns<'a, R>,
+    turns: &'x mut Turns<'a, R>,
 }
 
 impl<'x, 'a, R: Wait + Clock> ReaderThread<'x, 'a, R> {
@@ -77,12 +78,35 @@ impl Started {
         turns: u64,
     ) -> Result<(), StartFault> {
         let Beside { workers, readers } = beside;
+        self.start_workers(scope, rt, workers, turns)?;
+        self.start_readers(scope, rt, readers, turns)
+    }
+
+    /// Starts a thread for each of these workers.
+    fn start_workers<'s, 'a: 's, E, R: Platform>(
+        &mut self,
+        scope: &Scope<'s, E>,
+        rt: &'s R,
+        workers: Vec<WorkerTurns<'a>>,
+        turns: u64,
+    ) -> Result<(), StartFault> {
         for worker in workers {
             match scope.spawn(move || worker.work(rt, turns)) {
                 Ok(child) => self.workers.push(child)?,
                 Err(_) => return Err(StartFault::Thread),
             }
         }
+        Ok(())
+    }
+
+    /// Starts a thread for each of these readers.
+    fn start_readers<'s, 'a, E, R: Platform>(
+        &mut self,
+        scope: &Scope<'s, E>,
+        rt: &'s R,
+        readers: Vec<ReaderThread<'s, 'a, R>>,
+        turns: u64,
+    ) -> Result<(), StartFault> {
         for reader in readers {
             match scope.spawn(move || reader.run(rt, turns)) {
                 Ok(child) => self.readers.push(child)?,
@@ -92,9 +116,21 @@ impl Started {
         Ok(())
     }
 
-    /// One more, which is waited for with the workers.
-    pub(crate) fn keep(&mut self, child: JoinHandle<()>) {
-        let _ = self.workers.push(child);
+    /// Starts a thread that makes monitors' pages, if one can be had: whether it could. It is
+    /// waited for with the workers.
+    pub(crate) fn start_pages<'s, 'a: 's, E, R: Platform>(
+        &mut self,
+        scope: &Scope<'s, E>,
+        rt: &'s R,
+        maker: PageMaker<'a>,
+    ) -> bool {
+        match scope.spawn(move || maker.work(rt)) {
+            Ok(child) => {
+                let _ = self.workers.push(child);
+                true
+            }
+            Err(_) => false,
+        }
     }
 
     /// Waits until all have ended. It fails as the first reader that failed.

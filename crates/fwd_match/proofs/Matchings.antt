@@ -4,9 +4,10 @@ use Rattle.std.specs.Prelude.{is_some}
 use Rattle.std.specs.List.{slice_split}
 use Rattle.std.specs.Option.{option_copied}
 use Rattle.std.proofs.lemmas.List.Splits.{length-slice_split}
+use Rattle.std.proofs.lemmas.Slice.Eq.{bytes_eq-Decides}
 use Rattle.fwd_match.specs.Marks.{fields_left}
 use Rattle.fwd_match.specs.Steps.{TakesOne, TakesStars}
-use Rattle.fwd_match.specs.Patterns.{matches, one_part, some_suffix, fits, is_stars, is_dot}
+use Rattle.fwd_match.specs.Patterns.{matches, one_part, some_suffix, fits, is_stars, is_dot, parts}
 
 pub true_right : (b : Bool) → (b || true) ≡ true
 true_right true = refl
@@ -123,3 +124,18 @@ pub word_ends : (tag : Option (Bor (List ℕ))) → is_some tag ≡ true
     → matches [] (fields_left is_dot (option_copied tag)) ≡ false
 word_ends None some = cc
 word_ends (Some bytes) some = too_long_tag (slice_split is_dot bytes.now) (omega (arith, length-slice_split is_dot bytes.now))
+
+-- `**` at its end takes all that is left
+takes_all : (tag : List (List ℕ)) → some_suffix (matches []) tag ≡ true
+takes_all [] = ends_here
+takes_all (part ∷ more) = rw (takes_all more) (true_right (matches [] (part ∷ more)))
+
+all_match : (tag : List (List ℕ)) → matches ((42 ∷ 42 ∷ []) ∷ []) tag ≡ true
+all_match tag = at_stars (42 ∷ 42 ∷ []) [] tag refl ∙ takes_all tag
+
+-- the word `**` matches each tag
+pub stars_match : (word tag : List ℕ) → is_stars word ≡ true
+    → matches (parts word) (parts tag) ≡ true
+stars_match word tag e =
+    let same : word ≡ 42 ∷ 42 ∷ [] = (bytes_eq-Decides word (42 ∷ 42 ∷ [])).0 e in
+    rw same (all_match (parts tag))

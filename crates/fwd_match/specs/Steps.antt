@@ -4,8 +4,8 @@ use Rattle.std.specs.Option.{option_copied}
 use Rattle.fwd_match.specs.Patterns.{matches, some_suffix, is_dot}
 use Rattle.fwd_match.specs.Marks.{fields_left}
 use Rattle.fwd_match.specs.declared.matching.Remainder.{Remainder}
-use Rattle.fwd_match.specs.declared.matching.Step.{Step}
-use Rattle.fwd_match.specs.declared.matching.Step.TheVariants.{Ends, Fits, Stars, Differs}
+use Rattle.fwd_match.specs.declared.matching.MatchStep.{MatchStep}
+use Rattle.fwd_match.specs.declared.matching.MatchStep.TheVariants.{Ends, Fits, Stars, Differs}
 
 -- the parts that are left of the word
 abbrev pub word_left : Remainder → List (List ℕ)
@@ -32,7 +32,7 @@ pub record TakesStars (word tag word' tag' : List (List ℕ)) : Type 0 where
 
 -- a step says the truth of a place: it matches, or differs,
 -- or one part or a `**` is taken to come to the next place
-abbrev pub IsStep : Remainder → Step → Type 0
+abbrev pub IsStep : Remainder → MatchStep → Type 0
 IsStep at Ends = matches (word_left at) (tag_left at) ≡ true
 IsStep at (Fits next) = TakesOne (word_left at) (tag_left at) (word_left next) (tag_left next)
 IsStep at (Stars next) = TakesStars (word_left at) (tag_left at) (word_left next) (tag_left next)

@@ -14,6 +14,5 @@ mod spelling;
 mod stars;
 
 pub use fault::PatternFault;
-pub use limits::WORD_LIMIT;
 pub use pattern::Pattern;
 pub use routes::Routes;

@@ -15,7 +15,7 @@ struct Remainder<'a> {
 
 /// How a word goes on at a place.
 #[derive(Clone, Copy)]
-enum Step<'a> {
+enum MatchStep<'a> {
     /// Both are at their ends.
     Ends,
     /// One part fits, and this is the place behind it.
@@ -39,28 +39,28 @@ fn fits(wanted: &[u8], part: &[u8]) -> bool
 }
 
 /// The one comparison that is made at a place.
-fn next_step<'a>(at: Remainder<'a>) -> Step<'a>
+fn next_step<'a>(at: Remainder<'a>) -> MatchStep<'a>
     ensures { IsStep at.entry result }
 {
     let Some(word) = at.word else {
         return if at.tag.is_none() {
-            Step::Ends
+            MatchStep::Ends
         } else {
-            Step::Differs
+            MatchStep::Differs
         };
     };
     let (wanted, word) = first_field(word, Mark::Dot);
     if is_stars(wanted) {
-        return Step::Stars(Remainder { word, tag: at.tag });
+        return MatchStep::Stars(Remainder { word, tag: at.tag });
     }
     let Some(tag) = at.tag else {
-        return Step::Differs;
+        return MatchStep::Differs;
     };
     let (part, tag) = first_field(tag, Mark::Dot);
     if fits(wanted, part) {
-        Step::Fits(Remainder { word, tag })
+        MatchStep::Fits(Remainder { word, tag })
     } else {
-        Step::Differs
+        MatchStep::Differs
     }
 }
 
@@ -81,7 +81,7 @@ fn one_later<'a>(at: Remainder<'a>) -> Option<Remainder<'a>>
 /// part further each time: what an earlier one took need not be given back. So
 /// no part of the word is compared twice with the same part of the tag, and
 /// there are at most (parts of the word) times (parts of the tag) comparisons.
-pub fn word_matches(word: &[u8], tag: &[u8]) -> bool
+fn parts_match(word: &[u8], tag: &[u8]) -> bool
     ensures { result ≡ patterns.matches (patterns.parts word.now) (patterns.parts tag.now) }
 {
     let mut at = Remainder {
@@ -91,17 +91,17 @@ pub fn word_matches(word: &[u8], tag: &[u8]) -> bool
     let mut again = None;
     loop {
         match next_step(at) {
-            Step::Ends => return true,
-            Step::Fits(next) => {
+            MatchStep::Ends => return true,
+            MatchStep::Fits(next) => {
                 at = next;
                 continue;
             }
-            Step::Stars(next) => {
+            MatchStep::Stars(next) => {
                 again = one_later(next);
                 at = next;
                 continue;
             }
-            Step::Differs => {
+            MatchStep::Differs => {
                 let Some(later) = again else {
                     return false;
                 };
@@ -111,4 +111,12 @@ pub fn word_matches(word: &[u8], tag: &[u8]) -> bool
             }
         }
     }
+}
+
+/// The same. The word `**`, which matches each tag, is not split into parts, nor is the tag.
+#[tactic(auto, using(crate::proofs::Matchings::stars_match))]
+pub fn word_matches(word: &[u8], tag: &[u8]) -> bool
+    ensures { result ≡ patterns.matches (patterns.parts word.now) (patterns.parts tag.now) }
+{
+    is_stars(word) || parts_match(word, tag)
 }

@@ -4,11 +4,12 @@ use Rattle.std.specs.Prelude.{option_and_then}
 use Rattle.std.specs.List.{concat, AllByRecursion}
 use Rattle.std.specs.Option.{option_map, option_copied}
 use Rattle.std.proofs.lemmas.List.{append-nil, length-append, length-take-le, length-drop, take-append-drop, drop_at, drop-drop}
-use Rattle.fwd_msgpack.specs.declared.head.Head.TheVariants.{Arr}
+use Rattle.fwd_msgpack.specs.declared.head.Head.{Head}
+use Rattle.fwd_msgpack.specs.declared.head.Head.TheVariants.{Nil, Bool as Boolean, Int, Float, Str, Bin, Arr, Map, Ext}
 use Rattle.fwd_msgpack.specs.declared.head.HeadRead.TheVariants as read
 use Rattle.fwd_msgpack.specs.declared.value.Value.{Value}
 use Rattle.fwd_msgpack.specs.Heads.{reading_of}
-use Rattle.fwd_msgpack.specs.Scans.{Whole, first_of, most_bytes, most_deep, parts_of, parts_read, elements_in, elements_of, head_of, is_nil, is_nil_head}
+use Rattle.fwd_msgpack.specs.Scans.{Whole, first_of, most_bytes, most_deep, parts_of, parts_read, elements_in, elements_of, head_of, is_nil, is_nil_head, text_in, text_of}
 use Rattle.fwd_msgpack.specs.Values.{AreHead, InARow, IsValue, bytes_of}
 use Rattle.fwd_msgpack.proofs.Complete.{head_more}
 use Rattle.fwd_msgpack.proofs.Flats.{value_there}
@@ -17,11 +18,11 @@ use Rattle.fwd_msgpack.proofs.Pieces.{take_further}
 use Rattle.fwd_msgpack.proofs.Sound.{front_alone}
 use Rattle.fwd_msgpack.proofs.Written.{first_value, values_row, container_value, in_a_row}
 use Rattle.fwd_modes.specs.declared.envelope.Envelope.{Envelope}
-use Rattle.fwd_modes.specs.Entries.{BeginsKept, before, cut_at, entries_of, kept_if, listed_entries}
-use Rattle.fwd_modes.specs.Fronts.{AreKeptInARow, HoldEntries, IsKept, StandAt}
+use Rattle.fwd_modes.specs.Entries.{BeginsKept, before, cut_at, entries_of, kept_if, listed_entries, packed_entries}
+use Rattle.fwd_modes.specs.Fronts.{AreKeptInARow, HoldEntries, HoldWithin, IsKept, StandAt}
 use Rattle.fwd_modes.specs.Moved.{optional}
 use Rattle.fwd_modes.specs.Readings.{judged}
-use Rattle.fwd_modes.specs.Requests.{Mode, Message, Forward, mode_by, of_parts, one_entry, parts_by, parts_in, request_of, with_option}
+use Rattle.fwd_modes.specs.Requests.{Mode, Message, Forward, PackedForward, mode_by, of_parts, one_entry, parts_by, parts_in, request_of, unpacked, with_option}
 use Rattle.fwd_modes.specs.Requests.Reading.{Heartbeat as heartbeat, Asks as asks}
 use Rattle.fwd_modes.proofs.EntryLemmas.{length_ends}
 use Rattle.fwd_modes.proofs.Spelled.{cut_grows, entries_grow}
@@ -246,6 +247,38 @@ one_holds deep bytes time fields entry at mid end a b mode is =
           ∙ ap (λ (e : Option (List ℕ)). with_option tag (one_entry e) others) is;
     }
 
+-- a text tells PackedForward mode
+text_mode : (p : Option (Head × List ℕ)) (text : List ℕ)
+    → option_and_then (λ parts. text_in parts.0 parts.1) p ≡ Some text
+    → mode_by (option_map (λ parts. parts.0) p) ≡ Some PackedForward
+text_mode None text e = absurd cc
+text_mode (Some (Str len, body)) text e = refl
+text_mode (Some (Bin len, body)) text e = refl
+text_mode (Some (Arr n, body)) text e = absurd cc
+text_mode (Some (Map n, body)) text e = absurd cc
+text_mode (Some (Nil, body)) text e = absurd cc
+text_mode (Some (Boolean b, body)) text e = absurd cc
+text_mode (Some (Int neg mag, body)) text e = absurd cc
+text_mode (Some (Float len, body)) text e = absurd cc
+text_mode (Some (Ext kind len, body)) text e = absurd cc
+
+-- packed entries
+pub packed_holds : (most deep : ℕ) (bytes packed text ends : List ℕ) (at end : ℕ)
+    → StandAt deep bytes at end (packed ∷ []) → text_of packed ≡ Some text
+    → packed_entries most text ≡ Some (cut_at 0 ends text)
+    → HoldWithin most deep bytes at end 1 (cut_at 0 ends text)
+packed_holds most deep bytes packed text ends at end stands own entries =
+    let mode : mode_by (head_of packed) ≡ Some PackedForward = text_mode (parts_of packed) text own in
+    let found : unpacked most packed ≡ Some (cut_at 0 ends text) = ap (option_and_then (packed_entries most)) own ∙ entries in
+    record {
+      values = packed ∷ [];
+      stand = stands;
+      count_is = refl;
+      parts = λ tag others.
+          ap (λ (m : Option Mode). parts_by most m tag packed others) mode
+          ∙ ap (λ (e : Option (List (List ℕ))). with_option tag e others) found;
+    }
+
 -- how many bytes the values at a place have
 pub stand_len : (deep : ℕ) (bytes own : List ℕ) (at end : ℕ)
     → StandAt deep bytes at end (own ∷ []) → at + length own ≡ end
@@ -266,7 +299,7 @@ module _ (deep : ℕ) (bytes : List ℕ) (n at mid behind end members : ℕ) (ta
     (entries : List (List ℕ)) (option : Option Value) (asked : Envelope)
     (head : reading_of bytes ≡ read.Whole (Arr n) at)
     (first : StandAt deep bytes at mid (tag ∷ []))
-    (held : HoldEntries deep bytes mid behind members entries)
+    (held : HoldWithin (suc deep) deep bytes mid behind members entries)
     (last : StandAt deep bytes behind end (optional option))
     (count : 1 + members + length (optional option) ≡ n)
     (shallow : deep ≤ most_deep) (short : end ≤ most_bytes)
@@ -292,6 +325,6 @@ module _ (deep : ℕ) (bytes : List ℕ) (n at mid behind end members : ℕ) (ta
         let values = tag ∷ (held.values ++ optional option) in
         let elements = array_elements deep bytes n at end values head all all_count shallow short in
         let nil : is_nil own ≡ false = ap is_nil_head (array_head deep bytes n at end values head all all_count) in
-        let found = ap (option_and_then (parts_in (suc deep))) elements ∙ held.parts (suc deep) tag (optional option) ∙ by_option tag (Some entries) option in
+        let found = ap (option_and_then (parts_in (suc deep))) elements ∙ held.parts tag (optional option) ∙ by_option tag (Some entries) option in
         ap (λ (b : Bool). cond b heartbeat (of_parts (option_and_then (parts_in (suc deep)) (elements_of own)))) nil
         ∙ ap of_parts found ∙ sym said

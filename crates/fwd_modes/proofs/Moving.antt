@@ -18,7 +18,7 @@ use Rattle.fwd_msgpack.specs.Scans.{is_nil}
 use Rattle.fwd_msgpack.specs.Values.{bytes_of}
 use Rattle.fwd_msgpack.specs.declared.value.Value.{Value}
 use Rattle.fwd_modes.specs.declared.envelope.Envelope.{Envelope}
-use Rattle.fwd_modes.specs.declared.found.PackedParts.{PackedParts}
+use Rattle.fwd_modes.specs.declared.packed_request.PackedParts.{PackedParts}
 use Rattle.fwd_modes.specs.declared.request_fields.EntriesForm.TheVariants.{Packed}
 use Rattle.fwd_modes.specs.Entries.{cut_at, packed_entries}
 use Rattle.fwd_modes.specs.Requests.{Mode, with_option, unpacked, parts_by, parts_in, of_parts, request_of}

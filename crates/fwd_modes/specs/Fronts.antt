@@ -2,8 +2,8 @@
 use Rattle.std.specs.Prelude.{◌≡◌, ℕ, ◌-◌, ◌≤◌, List, [], ◌∷◌, ◌++◌, length, take, drop, Some}
 use Rattle.std.specs.List.{concat, AllByRecursion}
 use Rattle.fwd_msgpack.specs.Values.{IsValue}
-use Rattle.fwd_modes.specs.declared.laid.Laid.{Laid}
-use Rattle.fwd_modes.specs.declared.laid.Laid.TheVariants.{One, Row}
+use Rattle.fwd_modes.specs.declared.borrowed_entries.Laid.{Laid}
+use Rattle.fwd_modes.specs.declared.borrowed_entries.Laid.TheVariants.{One, Row}
 use Rattle.fwd_modes.specs.Entries.{AreCut, cut_at, entry_of}
 use Rattle.fwd_modes.specs.Readings.{kept}
 use Rattle.fwd_modes.specs.Requests.{parts_in, with_option}
@@ -36,6 +36,15 @@ pub record HoldEntries (deep : ℕ) (bytes : List ℕ) (at end count : ℕ) (ent
   pub stand : StandAt deep bytes at end values
   pub count_is : length values ≡ count
   pub parts : (most : ℕ) (tag : List ℕ) (others : List (List ℕ))
+      → parts_in most (tag ∷ values ++ others) ≡ with_option tag (Some entries) others
+
+-- The same, where packed entries are at most so deep.
+pub record HoldWithin (most deep : ℕ) (bytes : List ℕ) (at end count : ℕ)
+    (entries : List (List ℕ)) : Type 0 where
+  pub values : List (List ℕ)
+  pub stand : StandAt deep bytes at end values
+  pub count_is : length values ≡ count
+  pub parts : (tag : List ℕ) (others : List (List ℕ))
       → parts_in most (tag ∷ values ++ others) ≡ with_option tag (Some entries) others
 
 -- the entries that lie somewhere, as they are kept

@@ -4,8 +4,8 @@ use Rattle.fwd_msgpack.specs.Scans.{head_of}
 use Rattle.fwd_msgpack.specs.Values.{bytes_of}
 use Rattle.fwd_msgpack.specs.declared.value.Value.{Value}
 use Rattle.fwd_modes.specs.declared.limits.TheConstants.{CHUNK_LIMIT, TAG_LIMIT}
-use Rattle.fwd_modes.specs.declared.found.Found.{Found}
-use Rattle.fwd_modes.specs.declared.found.PackedParts.{PackedParts}
+use Rattle.fwd_modes.specs.declared.packed_request.Found.{Found}
+use Rattle.fwd_modes.specs.declared.packed_request.PackedParts.{PackedParts}
 use Rattle.fwd_modes.specs.Entries.{AreCut, AreFull, cut_at}
 use Rattle.fwd_modes.specs.Requests.{Request, PackedForward, mode_by, request_of}
 use Rattle.fwd_modes.specs.Requests.Reading.{Asks}

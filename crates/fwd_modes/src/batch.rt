@@ -20,9 +20,9 @@ ghost use Rattle.fwd_modes.specs.Moved.{AreWithin, found_in};
 
 use crate::contents::Contents;
 use crate::entries::Entries;
-use crate::found::Found;
-use crate::kept::KeptEntries;
+use crate::kept_entries::KeptEntries;
 use crate::limits::{CHUNK_LIMIT, TAG_LIMIT};
+use crate::packed_request::Found;
 use std::alloc::{AllocError, Global};
 use std::marker::Model;
 use std::mem;
@@ -143,7 +143,7 @@ impl Batch {
         ensures value { result ≡ length self.now.entries }
         ensures bound { length (concat self.now.entries) < 2 ^ 32 }
     {
-        let _entries = self.contents.entries();
+        let _entries = self.contents.entries(); // for the proof
         self.contents.ends().len()
     }
 

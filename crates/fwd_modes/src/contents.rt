@@ -21,9 +21,9 @@ ghost use Rattle.fwd_modes.specs.Readings.{entries_left};
 ghost use Rattle.fwd_modes.specs.Moved.{AreWithin, found_in};
 
 use crate::entries::Entries;
-use crate::found::Found;
-use crate::kept::KeptEntries;
+use crate::kept_entries::KeptEntries;
 use crate::limits::{CHUNK_LIMIT, TAG_LIMIT};
+use crate::packed_request::Found;
 use smallvec::SmallVec;
 use std::alloc::{AllocError, Global};
 use std::marker::Model;

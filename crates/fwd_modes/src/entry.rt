@@ -5,8 +5,8 @@ ghost use Rattle.fwd_modes.specs.Entries.{entry_of};
 ghost use Rattle.std.specs.Option.{option_map};
 ghost use Rattle.fwd_msgpack.specs.Values.{bytes_of};
 
-use crate::kinds::is_map;
 use crate::time::is_time;
+use crate::value_kind::is_map;
 use fwd_msgpack::Value;
 
 /// The time and the fields of an entry, as they are spelled.
@@ -19,6 +19,7 @@ pub(crate) struct Entry<'a> {
 
 impl<'a> Entry<'a> {
     ghost use Rattle.fwd_modes.specs.Entries.{entry_of, kept_if};
+    ghost use Rattle.fwd_modes.specs.Kinds.{is_map};
     ghost use Rattle.fwd_modes.specs.Readings.{kept};
 
     /// A time and fields, if they are a time and a map.
@@ -38,6 +39,20 @@ impl<'a> Entry<'a> {
             time: time.bytes(),
             fields: fields.bytes(),
         })
+    }
+
+    /// The same of fields that are a map.
+    #[inline(always)]
+    pub(crate) fn of_map(time: Value<'a>, fields: &'a [u8]) -> Option<Entry<'a>>
+        requires short { 1 + length (bytes_of time) + length fields.now < 2 ^ 32 }
+        requires map { is_map fields.now ≡ true }
+        ensures { option_map kept result ≡ kept_if (bytes_of time.entry) fields.entry.now }
+    {
+        if !is_time(time) {
+            return None;
+        }
+        let time = time.bytes();
+        Some(Entry { time, fields })
     }
 
     /// How many bytes it has as it is kept.

@@ -6,7 +6,7 @@ ghost use Rattle.fwd_msgpack.specs.Values.{bytes_of};
 ghost use Rattle.fwd_modes.specs.Entries.{AreCut, BeginsKept, cut_at, listed_entries, packed_entries};
 
 use crate::entry::{Entry, is_kept};
-use crate::kept::{KeptEntries, copied};
+use crate::kept_entries::{KeptEntries, copied};
 use crate::time::is_time;
 use fwd_msgpack::{Cut, Limits, MAX_DEPTH, Shape, Value, cut, flat_pair};
 use smallvec::SmallVec;
@@ -83,7 +83,7 @@ pub(crate) fn read_list(
         return Ok(None);
     };
     let packed = members.bytes();
-    let Some(ends) = ends_of_kept(alloc, packed, MAX_DEPTH)? else {
+    let Some(ends) = ends_of_kept(alloc, packed, MAX_DEPTH, &mut Shape::new())? else {
         return list_each(alloc, list, more);
     };
     let bytes = copied(alloc, packed, more)?;
@@ -96,6 +96,7 @@ pub(crate) fn ends_of_kept(
     alloc: Global,
     packed: &[u8],
     depth: u8,
+    shape: &mut Shape,
 ) -> Result<Option<SmallVec<u32, 2>>, AllocError>
     requires shallow { depth ≤ 128 }
     requires fits { length packed.now < 2 ^ 32 }
@@ -107,11 +108,10 @@ pub(crate) fn ends_of_kept(
         bytes: u32::MAX,
         depth,
     };
-    let mut shape = Shape::new();
     let mut ends = SmallVec::new(alloc);
     let mut used = 0;
     'entries: while used < packed.len() {
-        let Some(len) = kept_len(&packed[used..], limits, &mut shape) else {
+        let Some(len) = kept_len(&packed[used..], limits, shape) else {
             return Ok(None);
         };
         used += len;
@@ -163,7 +163,7 @@ pub(crate) fn read_packed(
     requires fits { length packed.now < 2 ^ 32 }
     ensures { IfOk result (λ kept. kept ≡ packed_entries depth packed.now) }
 {
-    match ends_of_kept(alloc, packed, depth)? {
+    match ends_of_kept(alloc, packed, depth, &mut Shape::new())? {
         Some(ends) => {
             let bytes = copied(alloc, packed, more)?;
             Ok(Some(KeptEntries::of(bytes, ends)))

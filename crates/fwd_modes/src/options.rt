@@ -7,8 +7,9 @@ ghost use Rattle.fwd_modes.specs.declared.limits.TheConstants.{CHUNK_LIMIT};
 ghost use Rattle.fwd_modes.specs.Options.{unless_nil, chunk_of, is_bad_chunk, is_bad_option, is_compression, is_compressed};
 
 use crate::fault::InputFault;
-use crate::kinds::text_within;
 use crate::limits::CHUNK_LIMIT;
+use crate::short_option::short_chunk;
+use crate::value_kind::text_within;
 use fwd_msgpack::Value;
 
 /// What an option says.
@@ -74,6 +75,12 @@ pub(crate) fn read_option<'a>(option: Option<Value<'a>>) -> Result<OptionFields<
     let Some(option) = option else {
         return Ok(NOTHING);
     };
+    if let Some(chunk) = short_chunk(option) {
+        return Ok(OptionFields {
+            chunk: Some(chunk),
+            compressed: false,
+        });
+    }
     if option.is_nil() {
         return Ok(NOTHING);
     }

@@ -12,12 +12,12 @@ use crate::batch::Batch;
 use crate::entry::Entry;
 use crate::envelope::Envelope;
 use crate::fault::InputFault;
-use crate::kept::KeptEntries;
-use crate::kinds::text_within;
+use crate::kept_entries::KeptEntries;
 use crate::limits::TAG_LIMIT;
 use crate::lists::{read_list, read_packed};
 use crate::options::read_option;
 use crate::request_fields::{EntriesForm, RequestFields};
+use crate::value_kind::text_within;
 use fwd_msgpack::{Limits, Value};
 use std::alloc::{AllocError, Global};
 

@@ -7,7 +7,7 @@ ghost use Rattle.fwd_modes.specs.Requests.{request_of};
 ghost use Rattle.fwd_modes.specs.Readings.{shown};
 
 use crate::batch::Batch;
-use crate::found::find;
+use crate::packed_request::find;
 use crate::request::{Reading, read_request};
 use fwd_msgpack::{Cut, Limits, Value, cut};
 use std::alloc::{AllocError, Global};

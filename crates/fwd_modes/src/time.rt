@@ -1,6 +1,6 @@
 //! The times of entries (Forward Protocol Specification v1, "EventTime Ext Format").
 
-ghost use Rattle.std.specs.Prelude.{◌≡◌, ◌≤◌, length, take};
+ghost use Rattle.std.specs.Prelude.{◌≡◌, ◌≤◌, true, length, take};
 ghost use Rattle.std.specs.Int.{w32, from_be_bytes};
 ghost use Rattle.fwd_msgpack.specs.Values.{bytes_of};
 ghost use Rattle.fwd_modes.specs.Times.{event_time_of, is_time};
@@ -66,9 +66,22 @@ impl EventTime {
     }
 }
 
-/// Whether a value is a time: an integer or an EventTime. Negative integers are times too.
+/// Whether bytes are a time as most are spelled: seconds of 32 bits, or an EventTime of a fixed
+/// length.
 #[inline(always)]
-pub(crate) fn is_time(value: Value<'_>) -> bool
+fn is_usual(bytes: &[u8]) -> bool
+    ensures { result ≡ true → is_time bytes.now ≡ true }
+{
+    match bytes.len() {
+        5 => bytes[0] == 0xce,
+        10 => bytes[0] == 0xd7 && bytes[1] == 0,
+        _ => false,
+    }
+}
+
+/// Whether a value is a time, by its head.
+#[inline(never)]
+fn has_head_of_time(value: Value<'_>) -> bool
     ensures { result ≡ is_time (bytes_of value.entry) }
 {
     match value.head() {
@@ -76,4 +89,12 @@ pub(crate) fn is_time(value: Value<'_>) -> bool
         Head::Ext { .. } => EventTime::read(value).is_some(),
         _ => false,
     }
+}
+
+/// Whether a value is a time: an integer or an EventTime. Negative integers are times too.
+#[inline(always)]
+pub(crate) fn is_time(value: Value<'_>) -> bool
+    ensures { result ≡ is_time (bytes_of value.entry) }
+{
+    is_usual(value.bytes()) || has_head_of_time(value)
 }

@@ -9,8 +9,8 @@ use Rattle.fwd_monitor.specs.declared.reply.Reply.{Reply}
 use Rattle.fwd_monitor.specs.declared.reply.Reply.TheVariants.{More, Bytes}
 use Rattle.fwd_monitor.specs.Requests.{BeginsWith, HasManyLines, IsBad, IsDue, MustWait, WantsMetrics, WantsPage, is_for_metrics, is_for_page}
 use Rattle.fwd_monitor.specs.Statuses.{IsJudged, is_found, is_metrics}
-use Rattle.fwd_monitor.specs.declared.status.Status.{Status}
-use Rattle.fwd_monitor.specs.declared.status.Status.TheVariants.{Found, Metrics, NotFound, BadRequest}
+use Rattle.fwd_monitor.specs.declared.status.HttpStatus.{HttpStatus}
+use Rattle.fwd_monitor.specs.declared.status.HttpStatus.TheVariants.{Found, Metrics, NotFound, BadRequest}
 use Rattle.fwd_monitor.specs.Replies.{IsReplyTo, IsDueText, HasReason, bad_request, reply_to}
 use Rattle.fwd_monitor.proofs.HeadLemmas.{many-fields, many-more, whole-many}
 
@@ -129,7 +129,7 @@ page-apart method (b ∷ []) is = grind (arith, nat_tests, is)
 page-apart method (b ∷ c ∷ target) is = grind (arith, nat_tests, is)
 
 -- bytes are told the page just where they are judged so
-pub found-wants : (heard : List ℕ) (status : Option Status) → IsJudged heard status
+pub found-wants : (heard : List ℕ) (status : Option HttpStatus) → IsJudged heard status
     → (IsTrue (is_found status) → WantsPage heard) × (WantsPage heard → IsTrue (is_found status))
 found-wants heard None is =
     ((λ t. absurd (no t)), (λ w. absurd (is.unfinished w.0 w.1.whole.0 w.1.whole.1)))
@@ -142,7 +142,7 @@ found-wants heard (Some BadRequest) is =
     ((λ t. absurd (no t)), (λ w. absurd (begins-good heard w.0 w.1 is)))
 
 -- bytes ask for the metrics page just where they are judged so
-pub metrics-wants : (heard : List ℕ) (status : Option Status) → IsJudged heard status
+pub metrics-wants : (heard : List ℕ) (status : Option HttpStatus) → IsJudged heard status
     → (IsTrue (is_metrics status) → WantsMetrics heard)
     × (WantsMetrics heard → IsTrue (is_metrics status))
 metrics-wants heard None is =

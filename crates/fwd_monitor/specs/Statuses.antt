@@ -2,8 +2,8 @@
 use Rattle.std.specs.Prelude.{ℕ, Bool, true, false, List, Option, Some, None, IsTrue, IsFalse}
 use Rattle.httparse.specs.Grammar.{RequestHead}
 use Rattle.fwd_base.specs.declared.report.Report.{Report}
-use Rattle.fwd_monitor.specs.declared.status.Status.{Status}
-use Rattle.fwd_monitor.specs.declared.status.Status.TheVariants.{
+use Rattle.fwd_monitor.specs.declared.status.HttpStatus.{HttpStatus}
+use Rattle.fwd_monitor.specs.declared.status.HttpStatus.TheVariants.{
   Found,
   Metrics,
   NotFound,
@@ -13,7 +13,7 @@ use Rattle.fwd_monitor.specs.Replies.{page_reply, not_found, bad_request}
 use Rattle.fwd_monitor.specs.Requests.{BeginsWith, IsBad, MayWait, is_for_metrics, is_for_page}
 
 -- why the bytes come to this status
-abbrev pub HasStatus : List ℕ → Status → Type 0
+abbrev pub HasStatus : List ℕ → HttpStatus → Type 0
 HasStatus heard Found =
     (h : RequestHead) × BeginsWith heard h × IsTrue (is_for_page h.method h.target)
 HasStatus heard Metrics =
@@ -25,22 +25,22 @@ HasStatus heard NotFound =
 HasStatus heard BadRequest = IsBad heard
 
 -- the status of the bytes, or none while it is right to wait
-abbrev pub IsJudged : List ℕ → Option Status → Type 0
+abbrev pub IsJudged : List ℕ → Option HttpStatus → Type 0
 IsJudged heard (Some status) = HasStatus heard status
 IsJudged heard None = MayWait heard
 
 -- the status is that of the page
-abbrev pub is_found : Option Status → Bool
+abbrev pub is_found : Option HttpStatus → Bool
 is_found (Some Found) = true
 is_found _ = false
 
 -- the status is that of a request for the metrics page
-abbrev pub is_metrics : Option Status → Bool
+abbrev pub is_metrics : Option HttpStatus → Bool
 is_metrics (Some Metrics) = true
 is_metrics _ = false
 
 -- the bytes of the reply of each status, where no metrics are served
-abbrev pub reply_of : Status → List Report → List ℕ
+abbrev pub reply_of : HttpStatus → List Report → List ℕ
 reply_of Found reports = page_reply reports
 reply_of Metrics reports = not_found
 reply_of NotFound reports = not_found

@@ -10,7 +10,7 @@ use crate::judging::judge;
 use crate::metrics::metrics_page;
 use crate::pages::page;
 use crate::reply::Reply;
-use crate::status::Status;
+use crate::status::HttpStatus;
 use crate::tally::RelayTally;
 use fwd_base::Report;
 use std::alloc::{AllocError, Global};
@@ -37,16 +37,16 @@ pub fn answer(alloc: Global, head: &[u8], reports: &[Report]) -> Result<Reply, A
 }
 
 /// The bytes of a status's reply.
-fn text(alloc: Global, status: Status, reports: &[Report]) -> Result<String, AllocError>
+fn text(alloc: Global, status: HttpStatus, reports: &[Report]) -> Result<String, AllocError>
     ensures { IfOk result (λ text. string_bytes text ≡ reply_of status reports.now) }
 {
     match status {
-        Status::Found => found(alloc, reports),
-        Status::Metrics | Status::NotFound => String::from_str(
+        HttpStatus::Found => found(alloc, reports),
+        HttpStatus::Metrics | HttpStatus::NotFound => String::from_str(
             alloc,
             "HTTP/1.1 404 Not Found\r\nContent-Length: 0\r\nConnection: close\r\n\r\n",
         ),
-        Status::BadRequest => String::from_str(
+        HttpStatus::BadRequest => String::from_str(
             alloc,
             "HTTP/1.1 400 Bad Request\r\nContent-Length: 0\r\nConnection: close\r\n\r\n",
         ),

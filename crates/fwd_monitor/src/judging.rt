@@ -4,14 +4,14 @@ ghost use Rattle.fwd_monitor.specs.Requests.{WantsMetrics, WantsPage, is_for_met
 ghost use Rattle.fwd_monitor.specs.Statuses.{IsJudged, is_found, is_metrics};
 
 use crate::limits::{HEAD_LIMIT, MAX_HEADERS};
-use crate::status::Status;
+use crate::status::HttpStatus;
 use httparse::Status as Parsed;
 use httparse::spans::{EMPTY_HEADER_SPAN, parse_request};
 
 /// The status of the reply to these bytes, or none while there is none to be given. A head is what
 /// `httparse` takes, and a whole one wins over the limit of bytes. Bytes that end in their target
 /// may wait though nothing can follow them: it tests a target for UTF-8 only at its end.
-pub(crate) fn judge(heard: &[u8]) -> Option<Status>
+pub(crate) fn judge(heard: &[u8]) -> Option<HttpStatus>
     ensures { IsJudged heard.now result }
 {
     let mut headers = [EMPTY_HEADER_SPAN; MAX_HEADERS];
@@ -19,15 +19,15 @@ pub(crate) fn judge(heard: &[u8]) -> Option<Status>
         Ok(Parsed::Complete(head)) => {
             let (method, target) = (head.method.of(heard), head.path.of(heard));
             if asks_for_page(method, target) {
-                Some(Status::Found)
+                Some(HttpStatus::Found)
             } else if asks_for_metrics(method, target) {
-                Some(Status::Metrics)
+                Some(HttpStatus::Metrics)
             } else {
-                Some(Status::NotFound)
+                Some(HttpStatus::NotFound)
             }
         }
         Ok(Parsed::Partial) if heard.len() < HEAD_LIMIT && !has_many_lines(heard) => None,
-        Ok(Parsed::Partial) | Err(_) => Some(Status::BadRequest),
+        Ok(Parsed::Partial) | Err(_) => Some(HttpStatus::BadRequest),
     }
 }
 
@@ -48,17 +48,17 @@ pub fn wants_metrics(heard: &[u8]) -> bool
 }
 
 /// Whether the status is that of the page.
-fn is_found(status: Option<Status>) -> bool
+fn is_found(status: Option<HttpStatus>) -> bool
     ensures { result ≡ is_found status }
 {
-    matches!(status, Some(Status::Found))
+    matches!(status, Some(HttpStatus::Found))
 }
 
 /// Whether the status is that of a request for the metrics page.
-fn is_metrics(status: Option<Status>) -> bool
+fn is_metrics(status: Option<HttpStatus>) -> bool
     ensures { result ≡ is_metrics status }
 {
-    matches!(status, Some(Status::Metrics))
+    matches!(status, Some(HttpStatus::Metrics))
 }
 
 /// Whether a request is for the page.

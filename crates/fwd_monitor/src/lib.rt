@@ -23,8 +23,7 @@ pub use answering::{answer, metrics_reply};
 pub use figures::{Figures, OutputFigures, ProcessFigures};
 pub use judging::{wants_metrics, wants_page};
 pub use laws::{head_limits, one_head, one_reply};
-pub use limits::{HEAD_LIMIT, MAX_HEADERS, MAX_TAGS};
-pub use metrics::metrics_page;
+pub use limits::HEAD_LIMIT;
 pub use pages::page;
 pub use reply::Reply;
 pub use tally::{

@@ -1,6 +1,6 @@
 /// The status of a reply (RFC 9110, section 15).
 #[derive(Clone, Copy)]
-pub(crate) enum Status {
+pub(crate) enum HttpStatus {
     /// 200, to a request for the page.
     Found,
     /// To a request for the metrics page: 404, where none is served.

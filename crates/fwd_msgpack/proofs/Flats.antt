@@ -9,7 +9,7 @@ use Rattle.fwd_msgpack.specs.Heads.{head_bytes, reading_of, payload}
 use Rattle.fwd_msgpack.specs.Plain.{plain_len}
 use Rattle.fwd_msgpack.specs.Scans.{Whole, IsWhole, whole_len, start, first_of, elements_of, head_of, most_bytes, most_deep}
 use Rattle.fwd_msgpack.specs.Values.{IsPlain, InARow, IsValue}
-use Rattle.fwd_msgpack.specs.Flat.{AreInARow, BeginsWithPair}
+use Rattle.fwd_msgpack.specs.Flat.{AreInARow, BeginsWithMap, BeginsWithPair}
 use Rattle.fwd_msgpack.proofs.Fronts.{scanned}
 use Rattle.fwd_msgpack.proofs.Pieces.{take_further}
 use Rattle.fwd_msgpack.proofs.Plains.{ReadsPlain-from, told_here}
@@ -210,3 +210,23 @@ module _ (limit deep : ℕ) (bytes : List ℕ) (time pairs end : ℕ)
         some = omega (arith, on);
         within = inside;
       }
+
+-- what was read of the bytes is a map
+pub map_found : (deep pairs end : ℕ) (bytes : List ℕ) → 1 ≤ deep → pairs < 16
+    → end ≤ length bytes → get_or bytes 0 0 ≡ 0x80 + pairs
+    → AreInARow (deep - 1) (2 * pairs) bytes 1 end → BeginsWithMap deep bytes end
+map_found deep pairs end bytes some few inside first row =
+    let behind = end - 1 in
+    let body = take behind (drop 1 bytes) in
+    let len : suc behind ≡ end = omega (arith, row.0) in
+    let deeper : suc (deep - 1) ≡ deep = omega (arith, some) in
+    let spelled : take end bytes ≡ (0x80 + pairs) ∷ body =
+    ap (λ (k : ℕ). take k bytes) (sym len)
+    ∙ one_byte bytes 0 behind (omega (arith, row.0, inside))
+    ∙ ap (λ (b : ℕ). b ∷ body) first in
+    record {
+      pairs = pairs;
+      map = ap head_of spelled ∙ map_head pairs body few;
+      value = subst (λ (k : ℕ). IsValue k (take end bytes)) deeper (subst (IsValue (suc (deep - 1))) (sym spelled) (map_value (deep - 1) pairs body few row.1));
+      within = inside;
+    }

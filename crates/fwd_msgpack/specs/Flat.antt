@@ -20,3 +20,10 @@ pub record BeginsWithPair (limit deep : ℕ) (bytes first : List ℕ) (len : ℕ
   pub map : head_of second ≡ Some (Map pairs)
   pub some : 0 < len
   pub within : len ≤ length bytes
+
+-- The bytes begin with a value of so many bytes, at most so deep: a map.
+pub record BeginsWithMap (deep : ℕ) (bytes : List ℕ) (len : ℕ) : Type 0 where
+  pub pairs : ℕ
+  pub map : head_of (take len bytes) ≡ Some (Map pairs)
+  pub value : IsValue deep (take len bytes)
+  pub within : len ≤ length bytes

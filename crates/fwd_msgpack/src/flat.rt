@@ -1,8 +1,8 @@
-//! An array of two whose second value is a small map with short keys, as most entries are: read in
-//! one walk. What this walk does not know it leaves to `cut`.
+//! A small map with short keys, as most records are, and an array of two whose second value is one,
+//! as most entries are: read in one walk. What this walk does not know it leaves to `cut`.
 
 ghost use Rattle.std.specs.Prelude.{◌≡◌, ◌≤◌, ◌<◌, ◌+◌, ◌-◌, ◌*◌, ◌^◌, IfSome, length, take, drop};
-ghost use Rattle.fwd_msgpack.specs.Flat.{AreInARow, BeginsWithPair};
+ghost use Rattle.fwd_msgpack.specs.Flat.{AreInARow, BeginsWithMap, BeginsWithPair};
 ghost use Rattle.fwd_msgpack.specs.Values.{IsValue, bytes_of};
 
 use crate::limits::Limits;
@@ -50,8 +50,8 @@ impl ShortText {
 
 /// What the keys of the maps before began with, each at its place: a guess at those of the next
 /// map. A key's size is then known before its first byte is there. Whatever was guessed, the
-/// answers are the same. Where keys differ from map to map, guessing is soon given up, until the
-/// next request.
+/// answers are the same. Where keys differ from map to map, guessing is soon given up, until it is
+/// renewed for the next request.
 #[derive(Drop)]
 pub struct Shape {
     keys: [ShortText; MOST_PAIRS],
@@ -68,6 +68,12 @@ impl Shape {
             }; MOST_PAIRS],
             patience: PATIENCE,
         }
+    }
+
+    /// Guesses again, if that was given up.
+    #[inline(always)]
+    pub fn renew(&mut self) {
+        self.patience = PATIENCE;
     }
 
     /// How many bytes the key at a place takes, by its first byte, if it is a text of up to 31
@@ -228,6 +234,40 @@ pub fn flat_pair<'a>(bytes: &'a [u8], limits: Limits, shape: &mut Shape) -> Opti
     }
     let before = shape.patience;
     let found = read_pair(bytes, limits, shape);
+    shape.judge(before, found.is_some());
+    found
+}
+
+/// The same as `flat_map`, whatever was learnt of the shape.
+#[inline(always)]
+fn read_map(bytes: &[u8], limits: Limits, shape: &mut Shape) -> Option<usize>
+    requires { 1 ≤ limits.depth }
+    ensures { IfSome result (λ len. BeginsWithMap limits.depth bytes.now len) }
+{
+    if bytes.is_empty() {
+        return None;
+    }
+    let pairs = small_pairs(bytes[0])?;
+    let inner = Limits {
+        bytes: limits.bytes,
+        depth: limits.depth - 1,
+    };
+    let end = pairs_end(bytes, 1, pairs, inner, shape)?;
+    Some(end)
+}
+
+/// How many bytes the map at the front of some bytes takes, where it has up to 15 pairs whose keys
+/// are texts of up to 31 bytes. Otherwise nothing, which is never wrong, also where too few of the
+/// keys were as guessed. The limit of bytes is not looked at.
+#[inline(always)]
+pub fn flat_map(bytes: &[u8], limits: Limits, shape: &mut Shape) -> Option<usize>
+    ensures { IfSome result (λ len. BeginsWithMap limits.depth bytes.now len) }
+{
+    if limits.depth == 0 || shape.patience == 0 {
+        return None;
+    }
+    let before = shape.patience;
+    let found = read_map(bytes, limits, shape);
     shape.judge(before, found.is_some());
     found
 }

@@ -21,7 +21,7 @@ mod writing;
 
 pub use cutting::cut;
 pub use fault::ScanFault;
-pub use flat::{FlatPair, Shape, flat_pair};
+pub use flat::{Shape, flat_map, flat_pair};
 pub use head::{Head, HeadRead, read_head};
 pub use laws::{
     answer_is_first, elements_are_members, first_is_first, no_prefix, one_verdict,

@@ -168,7 +168,7 @@ impl Scanner {
     fn is_bounded(&self)
         ensures { self.now.limits.bytes < 2 ^ 32 }
     {
-        let _limits = self.limits;
+        let _limits = self.limits; // for the proof
     }
 
     /// How many bytes of the value there were.

@@ -1,7 +1,7 @@
 -- The bytes that come.
 use Rattle.std.proofs.Common.{◌≡◌, false, List, ℕ, Bool, [], ◌∷◌, ap, sym, subst, ◌∙◌, arith}
 use Rattle.fwd_peers.specs.declared.peer_state.PeerState.{PeerState}
-use Rattle.fwd_peers.specs.declared.stream.Visit.{Visit}
+use Rattle.fwd_peers.specs.declared.peer_stream.Visit.{Visit}
 use Rattle.fwd_peers.specs.Streams.{StreamCall, IsReading, is_full}
 use Rattle.fwd_peers.specs.Peers.{PeerShown, TakesIn, heard_at, stage_visited, Reads}
 

@@ -9,8 +9,8 @@ use Rattle.std.specs.IoError.{error_kind}
 use Rattle.std.specs.declared.io.ErrorKind.{ErrorKind}
 use Rattle.std.specs.declared.io.ErrorKind.TheVariants as kind
 use Rattle.std.specs.declared.io.Error.{Error}
-use Rattle.fwd_peers.specs.declared.stream.Visit.{Visit}
-use Rattle.fwd_peers.specs.declared.stream.Visit.TheVariants as visit
+use Rattle.fwd_peers.specs.declared.peer_stream.Visit.{Visit}
+use Rattle.fwd_peers.specs.declared.peer_stream.Visit.TheVariants as visit
 use Rattle.fwd_peers.specs.Streams.{StreamCall, IsCall, IsVisit, StopsShort, after_call, after_error, call_of, ends_after, end_of, front_of, moved_by, moved_in}
 
 -- the visit goes on after these calls: each of them moved bytes, or is made again

@@ -1,5 +1,6 @@
 -- What becomes of a source's connection.
 use Rattle.std.specs.Prelude.{◌≡◌, ◌+◌, ◌-◌, ◌^◌, ◌<◌, ◌≤◌, ◌==◌, ◌⊎◌, ◌&&◌, ℕ, Bool, true, false, not, nat_le, nat_lt, List, [], ◌∷◌, length, take, Option, Some, None, option_map, option_and_then, is_some, if◌then◌else◌}
+use Rattle.std.specs.List.{concat}
 use Rattle.fwd_match.specs.Patterns.{route}
 use Rattle.fwd_modes.specs.Acks.{ack_text}
 use Rattle.fwd_modes.specs.Requests.{Request}
@@ -17,15 +18,17 @@ use Rattle.fwd_source.specs.Live.{
   source_gives_first,
 }
 use Rattle.fwd_book.specs.Receipts.{Receipt}
-use Rattle.fwd_workers.specs.declared.refusal.AdmitRefusal.TheVariants as refusal
+use Rattle.fwd_book.specs.declared.refusal.AdmitRefusal.TheVariants as refusal
 use Rattle.fwd_peers.specs.declared.close_reason.PeerEnd.{PeerEnd}
 use Rattle.fwd_peers.specs.declared.close_reason.PeerEnd.TheVariants as peer_end
 use Rattle.fwd_peers.specs.declared.close_reason.CloseReason.{CloseReason}
 use Rattle.fwd_peers.specs.declared.close_reason.CloseReason.TheVariants as source_end
 use Rattle.fwd_peers.specs.declared.peer_state.PeerState.{PeerState}
 use Rattle.fwd_peers.specs.declared.peer_state.PeerState.TheVariants as stage
-use Rattle.fwd_peers.specs.declared.stream.Visit.{Visit}
-use Rattle.fwd_peers.specs.declared.stream.Visit.TheVariants as visit
+use Rattle.fwd_peers.specs.declared.peer_stream.Visit.{Visit}
+use Rattle.fwd_peers.specs.declared.peer_stream.Visit.TheVariants as visit
+use Rattle.fwd_peers.specs.declared.limits.TheConstants.{GREETING, UNSENT}
+use Rattle.fwd_peers.specs.Costs.{bounded, upkeep}
 use Rattle.fwd_peers.specs.Streams.{StreamCall, IsReading, IsVisit, is_full}
 
 -- what is seen of a source's connection: its id; how far it has come; why the relay ended it, until
@@ -33,7 +36,8 @@ use Rattle.fwd_peers.specs.Streams.{StreamCall, IsReading, IsVisit, is_full}
 -- be sent to it; its live part; how many bytes of acknowledgements are promised, and for how many
 -- bytes there is room; what its stream answered to all reads, and to all writes; when it sent
 -- something last, or came, in milliseconds; the number of the request that it gave last, and how
--- many of those that it gave were answered
+-- many of those that it gave were answered; and how many bytes it is owed: those take beside their
+-- entries that were not
 pub record PeerShown : Type 0 where
   pub id : ℕ
   pub stage : PeerState
@@ -47,6 +51,7 @@ pub record PeerShown : Type 0 where
   pub heard : ℕ
   pub given : ℕ
   pub answered : ℕ
+  pub owed : ℕ
 
 -- the relay owes it nothing: no acknowledgement is promised, no byte waits to be sent, and no
 -- request waits to be admitted
@@ -122,6 +127,14 @@ pub record Reads (now : ℕ) (to_end : Bool) (most : ℕ) (s : PeerShown) (more 
     heard = heard_at now bytes s.heard;
   }
 
+-- it is still to log in, and more bytes of it wait than a PING may have
+abbrev pub is_too_long : PeerShown → Bool
+is_too_long s = s.live.awaits && nat_lt GREETING (length s.live.rest)
+
+-- it was not read, since too many bytes waited to be sent to it, and may be now
+abbrev pub is_free : PeerShown → Bool
+is_free s = s.held && nat_lt (length s.live.unsent) UNSENT
+
 -- ---- what is asked of outputs
 
 -- the first of its requests that wait, if one does
@@ -135,6 +148,19 @@ first_route routes s = option_and_then (λ asked. route routes asked.1.tag) (fir
 -- one of its requests waits, and the sender of the first asked for an acknowledgement
 abbrev pub asks : PeerShown → Bool
 asks s = is_some (option_and_then (λ asked. asked.1.chunk) (first_asked s))
+
+-- how many bytes the entries of a request have, if there is one
+abbrev pub entry_bytes : Option (Origin × Request) → ℕ
+entry_bytes None = 0
+entry_bytes (Some asked) = length (concat asked.1.entries)
+
+-- how many bytes the entries have of the first of its requests that wait
+abbrev pub asked_bytes : PeerShown → ℕ
+asked_bytes s = entry_bytes (first_asked s)
+
+-- what it is owed once this request of it is given: what that takes beside its entries is more
+abbrev pub owed_with : PeerShown → Request → ℕ
+owed_with s request = bounded (s.owed + upkeep request.tag request.chunk)
 
 -- how many bytes an acknowledgement has, where the sender asked for one
 abbrev pub ack_size : (chunk : Option (List ℕ)) → ℕ
@@ -150,8 +176,8 @@ abbrev pub LacksRoom : PeerShown → (bytes : ℕ) → Type 0
 LacksRoom s bytes = (s.room < bytes) ⊎ (2 ^ 64 ≤ bytes)
 
 -- The first request that waits is given, under the connection's own id, and there is room for its
--- acknowledgement and for all that were promised before. Or none is given, and it is as it was:
--- none waits, or there is not that room.
+-- acknowledgement and for all that were promised before; and what it takes beside its entries is
+-- owed. Or none is given, and it is as it was: none waits, or there is not that room.
 abbrev pub Gives : PeerShown → Option (Origin × Request) → PeerShown → Type 0
 Gives s None t =
     (t ≡ s) × ((first_asked s ≡ None)
@@ -164,6 +190,7 @@ Gives s (Some asked) t =
       promised = promised_with s asked.1;
       room = t.room;
       given = asked.0.request;
+      owed = owed_with s asked.1;
     })
     × (asked.0.conn ≡ s.id)
 
@@ -174,9 +201,14 @@ abbrev pub with_one_answered : PeerShown → PeerShown
 with_one_answered s =
     record s { answered = if nat_lt s.answered s.given then s.answered + 1 else s.answered }
 
+-- the request of a receipt was answered: what it took beside its entries is owed no more
+abbrev pub answered_by : Receipt → PeerShown → PeerShown
+answered_by receipt s =
+    record (with_one_answered s) { owed = s.owed - upkeep receipt.tag receipt.chunk }
+
 -- what a receipt has counted at the connection of this id: it answers a request of that connection
 abbrev pub counted : Receipt → (id : ℕ) → PeerShown → PeerShown
-counted receipt id s = if receipt.origin.conn == id then with_one_answered s else s
+counted receipt id s = if receipt.origin.conn == id then answered_by receipt s else s
 
 -- the acknowledgement that a receipt has the connection of this id told: it is of a request of
 -- that connection, whose sender asked for one

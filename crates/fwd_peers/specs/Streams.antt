@@ -25,8 +25,8 @@ use Rattle.std.specs.IoError.{error_kind}
 use Rattle.std.specs.declared.io.ErrorKind.{ErrorKind}
 use Rattle.std.specs.declared.io.ErrorKind.TheVariants as kind
 use Rattle.std.specs.declared.io.Error.{Error}
-use Rattle.fwd_peers.specs.declared.stream.Visit.{Visit}
-use Rattle.fwd_peers.specs.declared.stream.Visit.TheVariants as visit
+use Rattle.fwd_peers.specs.declared.peer_stream.Visit.{Visit}
+use Rattle.fwd_peers.specs.declared.peer_stream.Visit.TheVariants as visit
 
 -- One call of a stream. A read: the room that it was to fill, as that is then, and what it
 -- answered. A write: the bytes that it was to take, and what it answered.

@@ -3,8 +3,8 @@
 ghost use Rattle.std.specs.Prelude.{◌≡◌};
 ghost use Rattle.fwd_peers.specs.Peers.{sized};
 
+use fwd_book::AdmitRefusal;
 use fwd_source::SourceFault;
-use fwd_workers::AdmitRefusal;
 
 /// Why the relay closes a source that would still send.
 #[derive(Clone, Copy, Debug)]

@@ -4,19 +4,21 @@
 
 mod calls;
 mod close_reason;
-mod cost;
 mod leave_stage;
 mod limits;
+mod peer_address;
+mod peer_socket;
 mod peer_state;
+mod peer_stream;
+mod request_cost;
 mod source_peer;
-mod stream;
 mod waiting_place;
 
 pub use close_reason::{CloseReason, PeerEnd};
-pub use cost::upkeep;
 pub use leave_stage::LeaveStage;
-pub use limits::{GREETING, SMALL_PIECE};
-pub use peer_state::PeerState;
+pub use peer_address::{PeerAddress, SocketPath};
+pub use peer_socket::PeerSocket;
+pub use peer_stream::{PeerStream, Stream, Visit};
+pub use request_cost::upkeep;
 pub use source_peer::SourcePeer;
-pub use stream::{PeerStream, Visit};
 pub use waiting_place::WaitingPlace;

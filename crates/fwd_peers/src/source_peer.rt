@@ -25,21 +25,20 @@ ghost use Rattle.fwd_peers.specs.Streams.{IsReading};
 ghost use Rattle.fwd_peers.specs.Peers as peers;
 
 use crate::close_reason::{CloseReason, PeerEnd};
-use crate::cost::upkeep;
 use crate::leave_stage::LeaveStage;
 use crate::limits::{ACK_FRONT, GREETING, SHORT_REQUEST, SMALL_PIECE, UNSENT};
+use crate::peer_address::PeerAddress;
+use crate::peer_socket::PeerSocket;
 use crate::peer_state::PeerState;
-use crate::stream::{PeerStream, Visit};
+use crate::peer_stream::{PeerStream, Stream, Visit};
+use crate::request_cost::upkeep;
 use crate::waiting_place::WaitingPlace;
-use fwd_book::Receipt;
+use fwd_book::{AdmitRefusal, Receipt};
 use fwd_match::Routes;
 use fwd_modes::{Batch, Origin};
 use fwd_source::{Piece, Source, SourceFault};
-use fwd_workers::AdmitRefusal;
-use mio::net::TcpStream;
 use std::alloc::Global;
 use std::marker::Model;
-use std::net::SocketAddr;
 
 /// A source's connection: its stream, and what it sent and is sent.
 #[derive(Drop)]
@@ -48,7 +47,7 @@ pub struct SourcePeer {
     id: u64,
     pub stream: PeerStream,
     /// Whose it is.
-    peer: SocketAddr,
+    peer: PeerAddress,
     source: Source,
     stage: PeerState,
     /// Why the relay closes it, until that is told.
@@ -93,6 +92,7 @@ impl Model for SourcePeer {
       heard = p.heard;
       given = p.given;
       answered = p.answered;
+      owed = p.owed;
     } };
 
     ghost invariant = { λ p. p.id ≡ p.source.live.setup.conn };
@@ -135,7 +135,13 @@ fn append_ack(source: &mut Source, chunk: &[u8]) -> bool
 impl SourcePeer {
     /// A source's connection over its stream, at the address that it comes from, which came at a
     /// moment (milliseconds). `id` is the source's.
-    pub fn new(id: u64, stream: TcpStream, peer: SocketAddr, source: Source, now: u64) -> SourcePeer
+    pub fn new(
+        id: u64,
+        socket: PeerSocket,
+        peer: PeerAddress,
+        source: Source,
+        now: u64,
+    ) -> SourcePeer
         requires { source.live.setup.conn ≡ id }
         ensures { result ≡ record {
           id = id;
@@ -150,11 +156,12 @@ impl SourcePeer {
           heard = now;
           given = 0;
           answered = 0;
+          owed = 0;
         } }
     {
         SourcePeer {
             id,
-            stream: PeerStream::new(stream),
+            stream: PeerStream::new(socket),
             peer,
             source,
             stage: PeerState::Open,
@@ -310,7 +317,7 @@ impl SourcePeer {
     }
 
     /// Where it comes from.
-    pub fn peer(&self) -> SocketAddr {
+    pub fn peer(&self) -> PeerAddress {
         self.peer
     }
 
@@ -323,7 +330,7 @@ impl SourcePeer {
 
     /// Whether it is still to log in, and more bytes of it wait than a PING may have.
     pub fn is_too_long(&self) -> bool
-        ensures { result ≡ self.now.live.awaits && nat_lt GREETING (length self.now.live.rest) }
+        ensures { result ≡ peers.is_too_long self.now }
     {
         self.source.awaits_login() && self.source.unfinished() > GREETING
     }
@@ -331,7 +338,8 @@ impl SourcePeer {
     /// How many bytes it is to be read in a visit, of so many at most: few where its requests are
     /// short, and before it has logged in as many as show that its PING is too long.
     pub fn portion(&self, most: usize) -> usize
-        ensures { result ≤ most }
+        ensures most { result ≤ most }
+        ensures some { peers.is_too_long self.now ≡ false → 0 < most → 0 < result }
     {
         let portion = if self.source.awaits_login() {
             (GREETING + 1).saturating_sub(self.source.unfinished())
@@ -344,12 +352,16 @@ impl SourcePeer {
     }
 
     /// How many bytes its requests take beside their entries of which it was not told yet.
-    pub fn owed(&self) -> usize {
+    pub fn owed(&self) -> usize
+        ensures { result ≡ self.now.owed }
+    {
         self.owed
     }
 
     /// How many bytes the entries have of the first request that waits.
-    pub fn asked_bytes(&self) -> usize {
+    pub fn asked_bytes(&self) -> usize
+        ensures { result ≡ peers.asked_bytes self.now }
+    {
         match self.source.peek() {
             None => 0,
             Some((_, batch)) => batch.entries().len(),
@@ -514,7 +526,7 @@ impl SourcePeer {
 
     /// Whether it was not read, and may be now.
     pub fn is_free(&self) -> bool
-        ensures { result ≡ self.now.held && nat_lt (length self.now.live.unsent) UNSENT }
+        ensures { result ≡ peers.is_free self.now }
     {
         self.is_held && self.source.out().len() < UNSENT
     }

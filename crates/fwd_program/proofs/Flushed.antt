@@ -8,9 +8,9 @@ use Rattle.fwd_script.specs.declared.status.Status.{Status}
 use Rattle.fwd_script.specs.declared.status.Status.TheVariants.{Done, BadSettings, BadLine, Memory, Input, Output}
 use Rattle.fwd_script.specs.declared.writing.WriteFailed.{WriteFailed}
 use Rattle.fwd_script.proofs.ReplayLemmas.{AppendsFront-all}
+use Rattle.fwd_journal.specs.declared.ending.RunEnd.{RunEnd}
+use Rattle.fwd_journal.specs.declared.ending.RunEnd.TheVariants.{Ran, Left}
 use Rattle.fwd_program.specs.Ends.{Runs}
-use Rattle.fwd_program.specs.declared.ending.RunEnd.{RunEnd}
-use Rattle.fwd_program.specs.declared.ending.RunEnd.TheVariants.{Ran, Left}
 
 -- what a run wrote still stands after what writes nothing more
 kept : (status : Status) (text : List ℕ) (old mid new : Option (List ℕ))

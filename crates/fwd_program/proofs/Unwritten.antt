@@ -8,13 +8,15 @@ use Rattle.fwd_settings.specs.declared.fault.SettingsFault.{SettingsFault}
 use Rattle.fwd_settings.specs.declared.fault.SettingsFault.TheVariants as faults
 use Rattle.fwd_script.specs.Statuses.{refused_status}
 use Rattle.fwd_script.specs.declared.status.Status.TheVariants.{Done}
-use Rattle.fwd_loop.specs.declared.fault.StartFault.{StartFault}
-use Rattle.fwd_loop.specs.declared.fault.StartFault.TheVariants as starts
-use Rattle.fwd_loop.specs.declared.draining.Ending.{Ending}
-use Rattle.fwd_loop.specs.declared.draining.Ending.TheVariants as endings
-use Rattle.fwd_program.specs.Ends.{Found, Runs, ended_as, ended_by}
-use Rattle.fwd_program.specs.declared.ending.RunEnd.{RunEnd}
-use Rattle.fwd_program.specs.declared.ending.RunEnd.TheVariants.{Ran}
+use Rattle.fwd_loop.specs.StartFault.{StartFault}
+use Rattle.fwd_loop.specs.StartFault.TheVariants as starts
+use Rattle.fwd_loop.specs.Ending.{Ending}
+use Rattle.fwd_loop.specs.Ending.TheVariants as endings
+use Rattle.fwd_journal.specs.RunEnds.{ended_as, ended_by}
+use Rattle.fwd_journal.specs.declared.ending.RunEnd.{RunEnd}
+use Rattle.fwd_journal.specs.declared.ending.RunEnd.TheVariants.{Ran}
+use Rattle.fwd_check.specs.Found.{Found}
+use Rattle.fwd_program.specs.Ends.{Runs}
 
 -- settings that were found are their text's
 pub good_text : (s : Settings) (text : List ℕ) → Found (Ok s) text → settings_of text ≡ Ok s

@@ -1,45 +1,16 @@
--- How a run ends, the exit status of each end, and what was written by then.
-use Rattle.std.specs.Prelude.{◌≡◌, ◌⊎◌, ℕ, List, length, Option, Result, Ok, Err}
+-- How a run by the settings in a text ended, and what was written by then.
+use Rattle.std.specs.Prelude.{◌≡◌, ◌⊎◌, ℕ, List, length, Option, Ok, Err}
 use Rattle.std.specs.Io.KnownBytes.{Appends, Keeps}
 use Rattle.fwd_monitor.specs.Report.{Report}
 use Rattle.fwd_settings.specs.Whole.{settings_of}
 use Rattle.fwd_settings.specs.declared.settings.Settings.{Settings}
-use Rattle.fwd_settings.specs.declared.fault.SettingsFault.{SettingsFault}
 use Rattle.fwd_settings.specs.declared.fault.SettingsFault.TheVariants as faults
 use Rattle.fwd_monitor.specs.Page.{page_of}
-use Rattle.fwd_script.specs.Statuses.{exit_code}
 use Rattle.fwd_script.specs.Writes.{AppendsFront}
 use Rattle.fwd_script.specs.declared.status.Status.TheVariants as statuses
-use Rattle.fwd_loop.specs.declared.fault.StartFault.{StartFault}
-use Rattle.fwd_loop.specs.declared.fault.StartFault.TheVariants as starts
+use Rattle.fwd_journal.specs.declared.ending.RunEnd.{RunEnd}
+use Rattle.fwd_journal.specs.declared.ending.RunEnd.TheVariants.{Ran, Start, Left}
 use Rattle.fwd_loop.specs.Ends.{AddUp}
-use Rattle.fwd_program.specs.declared.ending.RunEnd.{RunEnd}
-use Rattle.fwd_program.specs.declared.ending.RunEnd.TheVariants.{Ran, Start, Left}
-use Rattle.fwd_loop.specs.declared.draining.Ending.{Ending}
-use Rattle.fwd_loop.specs.declared.draining.Ending.TheVariants as endings
-
--- the exit status: that of a check or a replay that ends so, 4 where the relay could not start, and
--- 6 where it was asked to stop and entries are left
-abbrev pub run_code : RunEnd → ℕ
-run_code (Ran status) = exit_code status
-run_code (Start fault) = 4
-run_code (Left entries) = 6
-
--- how a run ends that came to its end so
-abbrev pub ended_as : Ending → RunEnd
-ended_as (endings.Left entries) = Left entries
-ended_as ending = Ran statuses.Done
-
--- how a run ends whose relay could not start: out of memory is told as such
-abbrev pub ended_by : StartFault → RunEnd
-ended_by starts.Memory = Ran statuses.Memory
-ended_by fault = Start fault
-
--- what was found of the settings in a text: they or their first fault, and else that there was no
--- memory, or that it was not read to its end
-abbrev pub Found : Result Settings SettingsFault → List ℕ → Type 0
-Found found text =
-    (found ≡ Err faults.Memory) ⊎ (found ≡ Err faults.Unreadable) ⊎ (found ≡ settings_of text)
 
 -- what a run by these settings may report at its end: of each output once, and so that it adds up
 abbrev pub ReportsFor : Settings → List Report → Type 0

@@ -5,7 +5,7 @@ ghost use Rattle.std.specs.String.{string_bytes};
 ghost use Rattle.fwd_script.specs.Program.{words_behind};
 ghost use Rattle.fwd_program.specs.Asked.{AsksRun, turns_of};
 
-use crate::journal::Log;
+use fwd_journal::Log;
 use fwd_script::number;
 
 /// What a run is asked for.

@@ -1,7 +1,7 @@
 //! Standard error, written by a thread of its own, since no call of the kit gives up a write that
 //! blocks. Writes that do not block would be set for every user of the same pipe.
 
-use crate::journal::Log;
+use fwd_journal::Log;
 use std::alloc::{AllocError, Global};
 use std::io::{ErrorKind, Write};
 use std::rt::Clock;
@@ -18,7 +18,7 @@ const LAST_WAIT: u64 = 1_000;
 
 /// What waits to be written.
 #[derive(Drop)]
-struct Waiting {
+struct QueuedText {
     text: Vec<u8>,
     /// Nothing more comes.
     is_closed: bool,
@@ -28,31 +28,31 @@ struct Waiting {
 
 /// What the thread that writes shares with the one that tells.
 #[derive(Drop)]
-struct Outbox {
-    waiting: Mutex<Waiting>,
+struct WriterQueue {
+    queued: Mutex<QueuedText>,
     changed: Condvar,
 }
 
-impl Outbox {
+impl WriterQueue {
     /// Nothing waits. There is room for all that may.
-    fn new(alloc: Global) -> Result<Outbox, AllocError> {
-        let waiting = Waiting {
+    fn new(alloc: Global) -> Result<WriterQueue, AllocError> {
+        let queued = QueuedText {
             text: Vec::with_capacity(alloc, ROOM)?,
             is_closed: false,
             is_written: false,
         };
-        Ok(Outbox {
-            waiting: Mutex::new(waiting),
+        Ok(WriterQueue {
+            queued: Mutex::new(queued),
             changed: Condvar::new(),
         })
     }
 
     /// Takes a text, or nothing of it where it does not fit: whether it did.
     fn put<R: Wait>(&self, rt: &R, text: &[u8]) -> bool {
-        let mut waiting = self.waiting.lock(rt);
-        let taken = waiting.text.len().saturating_add(text.len()) <= ROOM
-            && waiting.text.extend_from_slice(text).is_ok();
-        drop(waiting);
+        let mut queued = self.queued.lock(rt);
+        let taken = queued.text.len().saturating_add(text.len()) <= ROOM
+            && queued.text.extend_from_slice(text).is_ok();
+        drop(queued);
         self.changed.notify_all();
         taken
     }
@@ -60,34 +60,34 @@ impl Outbox {
     /// Waits until something is to be written, and gives it for an empty room. It gives nothing
     /// only where nothing more comes.
     fn exchange<R: Wait>(&self, rt: &R, room: Vec<u8>) -> Vec<u8> {
-        let waiting = self.waiting.lock(rt);
-        let mut waiting = self.changed.wait_while(rt, waiting, |waiting| {
-            waiting.text.is_empty() && !waiting.is_closed
+        let queued = self.queued.lock(rt);
+        let mut queued = self.changed.wait_while(rt, queued, |queued| {
+            queued.text.is_empty() && !queued.is_closed
         });
-        mem::replace(&mut waiting.text, room)
+        mem::replace(&mut queued.text, room)
     }
 
     /// All is written.
     fn finish<R: Wait>(&self, rt: &R) {
-        self.waiting.lock(rt).is_written = true;
+        self.queued.lock(rt).is_written = true;
         self.changed.notify_all();
     }
 
     /// Nothing more comes. It waits a second for what is not written yet: whether all is.
     fn close<R: Wait + Clock>(&self, rt: &R) -> bool {
-        let mut waiting = self.waiting.lock(rt);
-        waiting.is_closed = true;
+        let mut queued = self.queued.lock(rt);
+        queued.is_closed = true;
         self.changed.notify_all();
         let limit = Duration::from_millis(LAST_WAIT);
         let (_waiting, ended) = self
             .changed
-            .wait_timeout_while(rt, waiting, limit, |waiting| !waiting.is_written);
+            .wait_timeout_while(rt, queued, limit, |queued| !queued.is_written);
         !ended.timed_out()
     }
 }
 
 /// Writes what comes, until nothing more does. What cannot be written is lost.
-fn write_out<R: Wait, E: Write>(rt: &R, outbox: &Outbox, errors: &mut E, room: Vec<u8>) {
+fn write_out<R: Wait, E: Write>(rt: &R, outbox: &WriterQueue, errors: &mut E, room: Vec<u8>) {
     let mut room = room;
     for _ in rt.forever() {
         let mut text = outbox.exchange(rt, room);
@@ -104,7 +104,7 @@ fn write_out<R: Wait, E: Write>(rt: &R, outbox: &Outbox, errors: &mut E, room: V
 /// A queue and the thread that writes what comes into it.
 #[derive(Drop)]
 struct Queue {
-    outbox: Arc<Outbox>,
+    outbox: Arc<WriterQueue>,
     writer: JoinHandle<()>,
 }
 
@@ -115,7 +115,7 @@ impl Queue {
         rt: R,
         errors: E,
     ) -> Option<Queue> {
-        let outbox = Arc::new(alloc, Outbox::new(alloc).ok()?).ok()?;
+        let outbox = Arc::new(alloc, WriterQueue::new(alloc).ok()?).ok()?;
         let theirs = Arc::try_clone(&outbox).ok()?;
         let room = Vec::with_capacity(alloc, ROOM).ok()?;
         let mut errors = errors;

@@ -1,22 +1,20 @@
 //! A run by the settings in a file.
 
-ghost use Rattle.std.specs.Prelude.{◌≡◌, ℕ, List, true, Err, map, IfOk, IfErr, MatchResult};
+ghost use Rattle.std.specs.Prelude.{◌≡◌, ℕ, List, true, Err, IfOk, IfErr, MatchResult};
 ghost use Rattle.fwd_settings.specs.Ranges.{in_range};
-ghost use Rattle.fwd_loop.specs.Pools.{shown_by};
+ghost use Rattle.fwd_loop.specs.Loops.{relay_by};
 ghost use Rattle.fwd_script.specs.Statuses.{refused_status};
 ghost use Rattle.fwd_script.specs.declared.status.Status.TheVariants as statuses;
-ghost use Rattle.fwd_program.specs.Ends.{Found, Runs, ended_as};
-ghost use Rattle.fwd_program.specs.declared.ending.RunEnd.TheVariants as ends;
+ghost use Rattle.fwd_journal.specs.RunEnds.{ended_as};
+ghost use Rattle.fwd_journal.specs.declared.ending.RunEnd.TheVariants as ends;
+ghost use Rattle.fwd_check.specs.Found.{Found};
+ghost use Rattle.fwd_program.specs.Ends.{Runs};
 
 use crate::asked::Run;
-use crate::causes::{say_refused, say_unheard};
-use crate::ending::RunEnd;
-use crate::file::SettingsFile;
-use crate::journal::{Journal, Log};
 use crate::process_observer::ProcessObserver;
-use crate::relay_cautions::say_of_addresses;
-use crate::unreached::add_patterns;
 use fwd_base::Text;
+use fwd_check::{SettingsFile, add_patterns, say_of_addresses, say_refused, say_unheard};
+use fwd_journal::{Journal, Log, RunEnd};
 use fwd_loop::{Ending, Loop, Observer, Platform, StartFault};
 use fwd_monitor::page;
 use fwd_script::{Status, WriteFailed, flush, write_all};
@@ -64,7 +62,7 @@ fn relay_of<R: Net + Files + AllocGlobal>(
     patterns: Vec<Text>,
 ) -> Result<Loop, StartFault>
     requires { in_range settings ≡ true }
-    ensures { IfOk result (λ relay. relay ≡ map shown_by settings.outputs) }
+    ensures { IfOk result (λ relay. relay ≡ relay_by settings) }
 {
     let relay = Loop::new(rt, settings)?;
     Ok(relay.with_patterns(patterns))
@@ -151,6 +149,13 @@ fn left_flushed(entries: u64, flush: Result<(), WriteFailed>) -> RunEnd
     }
 }
 
+/// Says what is known of why a relay did not start, if it did not.
+fn say_no_start<R: Net + Files, E: Write>(rt: &R, ran: &Result<Ending, RunEnd>, errors: &mut E) {
+    if let Err(RunEnd::Start(fault)) = ran {
+        say_unheard(rt, fault, errors);
+    }
+}
+
 /// Runs by the settings in a file, under a journal where the log asks for one, and writes the page
 /// of the last reports. It says why a run came to no more.
 fn run_logged<R: Platform + Files, W: Write, E: Write>(
@@ -165,7 +170,7 @@ fn run_logged<R: Platform + Files, W: Write, E: Write>(
     let mut patterns = Vec::new(rt.alloc());
     let found = settings_at(rt, run.path, &mut patterns, errors);
     let ran = run_told(rt, found, (run, patterns), output, errors);
-    say_unheard(rt, &ran, errors);
+    say_no_start(rt, &ran, errors);
     ended(ran)
 }
 

@@ -5,11 +5,9 @@ ghost use Rattle.std.specs.Prelude.{◌≡◌};
 ghost use Rattle.fwd_program.specs.Stops.{stop_code};
 
 use crate::asked_stop::StopCall;
-use crate::causes::say_refused;
-use crate::file::SettingsFile;
-use crate::saying::say;
 use arrayvec::ArrayString;
 use fwd_base::Text;
+use fwd_check::{SettingsFile, say, say_refused};
 use fwd_loop::ControlAnswer;
 use fwd_script::Status;
 use fwd_settings::{RelaySettings, Settings, SettingsFault};

@@ -7,8 +7,8 @@ use Rattle.std.proofs.lemmas.List.{append-nil}
 use Rattle.fwd_model.specs.declared.event.Event.{Event}
 use Rattle.fwd_model.specs.declared.answer.Answer.{Answer}
 use Rattle.fwd_script.specs.Stops.{Stops, stop_status}
-use Rattle.fwd_script.specs.declared.stepping.Stop.{Stop}
-use Rattle.fwd_script.specs.declared.stepping.Stop.TheVariants as stops
+use Rattle.fwd_script.specs.declared.stepping.StopReason.{StopReason}
+use Rattle.fwd_script.specs.declared.stepping.StopReason.TheVariants as stops
 use Rattle.fwd_script.specs.declared.status.Status.{Status}
 use Rattle.fwd_script.specs.declared.status.Status.TheVariants.{Done, BadSettings, BadLine, Memory, Input, Output}
 use Rattle.fwd_script.specs.declared.writing.WriteFailed.{WriteFailed}
@@ -319,7 +319,7 @@ met-state next s t read spelled is (inr (event, same, inr goes)) = inr (event, r
 pub IsAnswered-stop : {E S : Type 0} (answer_to : S → Event → Answer) (next : S → Event
     → S) (first : S) (before : ℕ) (lines : List (List ℕ)) (old : Option (List ℕ)) (s : S)
     (number : ℕ) (line : List ℕ) (rest : List (List ℕ)) (new : Option (List ℕ)) (t : S)
-    (newer : Option (List ℕ)) (stop : Stop) (read : Result (Option Event) E)
+    (newer : Option (List ℕ)) (stop : StopReason) (read : Result (Option Event) E)
     → IfOk read (λ e. e ≡ event_of line)
     → IsAnswered answer_to next first before lines old s number (line ∷ rest) new
     → Stops stop answer_to next s t read new newer
@@ -334,7 +334,7 @@ IsAnswered-stop answer_to next first before lines old s number line rest new t n
 pub IsAnswered-met : {E S : Type 0} (answer_to : S → Event → Answer) (next : S → Event
     → S) (first : S) (before : ℕ) (lines : List (List ℕ)) (old : Option (List ℕ)) (s : S)
     (number : ℕ) (line : List ℕ) (rest : List (List ℕ)) (new : Option (List ℕ)) (t : S)
-    (newer : Option (List ℕ)) (stop : Stop) (read : Result (Option Event) E)
+    (newer : Option (List ℕ)) (stop : StopReason) (read : Result (Option Event) E)
     → IfOk read (λ e. e ≡ event_of line)
     → IsAnswered answer_to next first before lines old s number (line ∷ rest) new
     → Stops stop answer_to next s t read new newer

@@ -7,12 +7,12 @@ use Rattle.fwd_script.specs.Replay.{answer_line}
 use Rattle.fwd_script.specs.Writes.{AppendsFront}
 use Rattle.fwd_script.specs.declared.status.Status.{Status}
 use Rattle.fwd_script.specs.declared.status.Status.TheVariants as statuses
-use Rattle.fwd_script.specs.declared.stepping.Stop.{Stop}
-use Rattle.fwd_script.specs.declared.stepping.Stop.TheVariants.{Bad, Memory, Output}
+use Rattle.fwd_script.specs.declared.stepping.StopReason.{StopReason}
+use Rattle.fwd_script.specs.declared.stepping.StopReason.TheVariants.{Bad, Memory, Output}
 
 -- At a line that was read as an event, as none, or not when out of memory, from a state to a state,
 -- with what was written. Where memory ran out later the line is an event.
-abbrev pub Stops : {E S : Type 0} → Stop → (S → Event → Answer) → (S → Event → S) → S
+abbrev pub Stops : {E S : Type 0} → StopReason → (S → Event → Answer) → (S → Event → S) → S
     → S → Result (Option Event) E → Option (List ℕ) → Option (List ℕ) → Type 0
 Stops Bad answer_to next s t read old new = (read ≡ Ok None) × Keeps old new
 Stops Memory answer_to next s t read old new =
@@ -24,7 +24,7 @@ Stops (Output failed) answer_to next s t read old new =
     × AppendsFront old new (answer_line (answer_to s event))
 
 -- how a run ends that stops so at the line of a number
-abbrev pub stop_status : Stop → ℕ → Status
+abbrev pub stop_status : StopReason → ℕ → Status
 stop_status Bad number = statuses.BadLine number
 stop_status Memory number = statuses.Memory
 stop_status (Output failed) number = statuses.Output failed

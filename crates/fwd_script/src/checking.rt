@@ -43,7 +43,7 @@ pub fn settings_in(
     ensures unread { IfErr read (λ error. result ≡ Err (unread error)) }
 {
     let text = read?;
-    accepted_is_in_range();
+    accepted_is_in_range(); // for the proof
     read_settings(alloc, text.as_slice())
 }
 

@@ -41,7 +41,7 @@ fn settings_text(text: &[u8]) -> &[u8]
 pub fn read_config(alloc: Global, text: &[u8]) -> Result<Config, SettingsFault>
     ensures { result ≢ Err SettingsFault.Memory → Configures text.now result }
 {
-    accepted_is_in_range();
+    accepted_is_in_range(); // for the proof
     let settings = read_settings(alloc, settings_text(text))?;
     Ok(config_of(alloc, settings)?)
 }

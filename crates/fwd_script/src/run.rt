@@ -81,7 +81,7 @@ pub fn replay<R: Read, W: Write>(alloc: Global, reader: &mut R, writer: &mut W) 
     ensures memory { result ≡ statuses.Memory
         → ReadsSome (R.remaining reader.old) (R.remaining reader.new) }
 {
-    live_run_follows();
+    live_run_follows(); // for the proof
     let input = match read_input(alloc, reader) {
         Ok(input) => input,
         Err(error) => return Status::from(error),

@@ -8,7 +8,7 @@ ghost use Rattle.fwd_script.specs.Script.{lines_of};
 ghost use Rattle.fwd_script.specs.Replay.{answer_line, Ends, MeetsMemory, SplitsAtBad};
 ghost use Rattle.fwd_script.specs.Stops.{Stops, stop_status};
 ghost use Rattle.fwd_script.specs.declared.status.Status.TheVariants as statuses;
-ghost use Rattle.fwd_script.specs.declared.stepping.Stop.TheVariants as stops;
+ghost use Rattle.fwd_script.specs.declared.stepping.StopReason.TheVariants as stops;
 
 use crate::event::read_event;
 use crate::output::write_all;
@@ -43,7 +43,7 @@ pub fn bad_line_is_first()
 {}
 
 /// Why a run over lines stops at one.
-enum Stop {
+enum StopReason {
     /// The line is no event.
     Bad,
     /// Memory ran out.
@@ -52,32 +52,32 @@ enum Stop {
     Output(WriteFailed),
 }
 
-impl Stop {
+impl StopReason {
     /// How a run ends that stops so at the line of this number.
     fn status(self, number: u64) -> Status
         ensures { result ≡ stop_status self number }
     {
         match self {
-            Stop::Bad => Status::BadLine(number),
-            Stop::Memory => Status::Memory,
-            Stop::Output(failed) => Status::Output(failed),
+            StopReason::Bad => Status::BadLine(number),
+            StopReason::Memory => Status::Memory,
+            StopReason::Output(failed) => Status::Output(failed),
         }
     }
 }
 
-impl From<AllocError> for Stop {
+impl From<AllocError> for StopReason {
     ghost from_gives = { λ _ stop. stop ≡ stops.Memory };
 
-    fn from(_error: AllocError) -> Stop {
-        Stop::Memory
+    fn from(_error: AllocError) -> StopReason {
+        StopReason::Memory
     }
 }
 
-impl From<WriteFailed> for Stop {
+impl From<WriteFailed> for StopReason {
     ghost from_gives = { λ failed stop. stop ≡ stops.Output failed };
 
-    fn from(failed: WriteFailed) -> Stop {
-        Stop::Output(failed)
+    fn from(failed: WriteFailed) -> StopReason {
+        StopReason::Output(failed)
     }
 }
 
@@ -135,7 +135,7 @@ fn answer_event<S: Step, W: Write>(
     relay: &mut S,
     read: Result<Option<Event>, AllocError>,
     writer: &mut W,
-) -> Result<(), Stop>
+) -> Result<(), StopReason>
     ensures { MatchResult result
         (λ _. (event : Event) × (read ≡ Ok (Some event))
         × (relay.new ≡ S.next relay.old event)
@@ -145,11 +145,11 @@ fn answer_event<S: Step, W: Write>(
         (W.contents writer.old) (W.contents writer.new)) }
 {
     let Some(event) = read? else {
-        return Err(Stop::Bad);
+        return Err(StopReason::Bad);
     };
     let answer = relay.step(alloc, &event);
     if let Answer::Memory = answer {
-        return Err(Stop::Memory);
+        return Err(StopReason::Memory);
     }
     let text = print_line(alloc, &answer)?;
     Ok(write_all(writer, text.as_bytes())?)

@@ -30,7 +30,7 @@ pub use laws::{
     stays_framed, stays_sane,
 };
 pub use limits::{REPLY_LIMIT, REPLY_LIMITS, REPLY_NESTING, WINDOW_LIMIT};
-pub use load::{LoadError, LoadFailed};
+pub use load::LoadFailed;
 pub use salt::OwnedSalt;
 pub use session::Session;
 pub use terms::AckTerms;

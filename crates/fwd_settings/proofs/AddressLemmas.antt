@@ -1,5 +1,6 @@
--- What std parses is the socket address that the text spells.
+-- What std parses is the socket address that the text spells; and where std cuts a text at a colon.
 use Rattle.std.proofs.Common.{◌≡◌, ℕ, List, [], ◌∷◌, Option, Some, None, Result, Ok, Err, length, option_map, refl, sym, ◌∙◌, subst, append-nil, ne_eqb, arith}
+use Rattle.std.specs.List.{position_or_len}
 use Rattle.std.specs.Option.{option_or}
 use Rattle.std.specs.Result.{result_ok}
 use Rattle.std.specs.declared.net.socket_addr.SocketAddrV4.{SocketAddrV4}
@@ -9,7 +10,10 @@ use Rattle.std.specs.declared.net.socket_addr.SocketAddr.TheVariants.{V4, V6}
 use Rattle.std.specs.Net.Grammar.{Parses, IsSocketV4Text, IsSocketV6Text, IsSocketText}
 use Rattle.std.specs.Net.Reader.{Read, read_socket_v4, read_socket_v6, whole_value, v4_parts, v6_parts}
 use Rattle.std.proofs.NetLemmas.Sockets.{read_socket_v4_complete, read_socket_v4_sound, read_socket_v6_complete, read_socket_v6_sound, IsSocketV4Text-not_v6}
-use Rattle.fwd_settings.specs.Addresses.{v4_from, v6_from, socket_of}
+use Rattle.std.proofs.lemmas.Bool.{lt-ltb, le-ltb}
+use Rattle.std.proofs.lemmas.Str.Pattern.{IsSplitOnceResult, split_once_first}
+use denote.Ref.{Bor}
+use Rattle.fwd_settings.specs.Addresses.{v4_from, v6_from, socket_of, is_colon, at_colon}
 
 -- a whole reading ends with the text
 whole_none : {A : Type 0} (read : Read A) (value : A) → whole_value read ≡ Some value
@@ -94,3 +98,15 @@ pub parsed_socket : {E : Type 0} (text : List ℕ) (parsed : Result SocketAddr E
     → Parses IsSocketText text parsed → result_ok parsed ≡ socket_of text
 parsed_socket text (Ok address) h = sym (socket_read text address h)
 parsed_socket text (Err error) h = sym (not_read text _ refl h)
+
+-- what std cuts at a colon
+pub cut_at_colon : (text : List ℕ) (cut : Option (Bor (List ℕ) × Bor (List ℕ)))
+    → IsSplitOnceResult 58 text cut
+    → option_map (λ parts. (parts.0.now, parts.1.now)) cut ≡ at_colon text
+unfolding at_colon
+cut_at_colon text None h =
+    let none = split_once_first 58 text None h (omega arith) in
+    rw (le-ltb (position_or_len is_colon text) (length text) (omega (arith, none)))
+cut_at_colon text (Some parts) h =
+    let some = split_once_first 58 text (Some parts) h (omega arith) in
+    rw (lt-ltb (position_or_len is_colon text) (length text) some.0, some.1, some.2)

@@ -8,9 +8,9 @@ use Rattle.toml.specs.Data.{string, integer, table, no_members, member}
 use Rattle.fwd_settings.specs.declared.fault.SettingsFault.TheVariants as faults
 use Rattle.fwd_settings.specs.declared.table_path.TablePath.TheVariants.{Output, Server}
 use Rattle.fwd_settings.specs.declared.table_path.Flaw.TheVariants.{WrongKind, OutOfRange}
-use Rattle.fwd_settings.specs.Addresses.{v4_from, v6_from, socket_of, address_of_text}
+use Rattle.fwd_settings.specs.Addresses.{v4_from, v6_from, socket_of, address_of_text, at_colon}
 use Rattle.fwd_settings.specs.Faults.{key_under, fault_text}
-use Rattle.fwd_settings.specs.Kinds.{number_flaw, flag_flaw, text_flaw, digits_flaw, fault_at, setting_at, number_key, text_key, optional_text_key, required_address_key}
+use Rattle.fwd_settings.specs.Kinds.{number_flaw, flag_flaw, text_flaw, digits_flaw, path_of_text, fault_at, setting_at, number_key, text_key, optional_text_key, required_address_key}
 use Rattle.fwd_settings.specs.Keys.{retry_max, output_shared_key, login_table, first, server_fault}
 use Rattle.fwd_settings.specs.Unknown.{least}
 
@@ -145,3 +145,15 @@ least_by_bytes : least (codes "output[1].b" ∷ codes "output[12].z" ∷ codes "
     ≡ Some (codes "output[12].z")
 unfolding least
 least_by_bytes = refl
+
+a_path : path_of_text (codes "unix:/run/a:b") ≡ Some (codes "/run/a:b")
+unfolding at_colon
+a_path = refl
+
+no_absolute_path : path_of_text (codes "unix:a") ≡ None
+unfolding at_colon
+no_absolute_path = refl
+
+another_word : path_of_text (codes "tcp:/a") ≡ None
+unfolding at_colon
+another_word = refl

@@ -1,8 +1,9 @@
 -- Addresses: a numeric IPv4 address or a bracketed IPv6 address without a scope, a colon and a
--- port from 1 to 65535.
-use Rattle.std.specs.Prelude.{ℕ, ◌==◌, Bool, ◌||◌, List, [], ◌∷◌, Option, Some, None, option_map, option_and_then, if◌then◌else◌}
+-- port from 1 to 65535. And paths of Unix sockets, which stand behind `unix:`.
+use Rattle.std.specs.Prelude.{ℕ, ◌==◌, nat_lt, Bool, false, ◌||◌, List, [], ◌∷◌, length, codes, Option, Some, None, option_map, option_and_then, if◌then◌else◌}
 use Rattle.std.specs.Option.{option_or}
-use Rattle.std.specs.List.{list_any}
+use Rattle.std.specs.List.{list_any, position_or_len, before_first, after_first}
+use Rattle.std.specs.Str.{bytes_eq}
 use Rattle.std.specs.Net.Reader.{read_socket_v4, read_socket_v6, whole_value}
 use Rattle.std.specs.Net.Socket.{socket_port}
 use Rattle.std.specs.declared.net.socket_addr.SocketAddr.{SocketAddr}
@@ -41,6 +42,37 @@ usable text address =
 -- the address that a text spells
 unfoldable pub address_of_text : List ℕ → Option SocketAddr
 address_of_text text = option_and_then (usable text) (socket_of text)
+
+-- a colon
+abbrev pub is_colon : ℕ → Bool
+is_colon byte = byte == 58
+
+-- a slash
+abbrev pub is_slash : ℕ → Bool
+is_slash byte = byte == 47
+
+-- a byte of 0
+abbrev pub is_zero : ℕ → Bool
+is_zero byte = byte == 0
+
+-- what stands before the first colon of a text, and what behind it, if it has one
+unfoldable pub at_colon : List ℕ → Option (List ℕ × List ℕ)
+at_colon text =
+    if nat_lt (position_or_len is_colon text) (length text)
+    then Some (before_first is_colon text, after_first is_colon text) else None
+
+-- what stands behind the colon, if `unix` stands before it
+abbrev pub if_unix : List ℕ × List ℕ → Option (List ℕ)
+if_unix parts = if bytes_eq parts.0 (codes "unix") then Some parts.1 else None
+
+-- what stands behind `unix:`, if a text begins so
+abbrev pub behind_unix : List ℕ → Option (List ℕ)
+behind_unix text = option_and_then if_unix (at_colon text)
+
+-- an absolute path begins with a slash
+abbrev pub is_absolute : List ℕ → Bool
+is_absolute [] = false
+is_absolute (byte ∷ more) = is_slash byte
 
 -- 127.0.0.1:24224
 abbrev pub home : SocketAddr

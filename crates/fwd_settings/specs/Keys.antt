@@ -13,16 +13,17 @@ use Rattle.fwd_settings.specs.declared.settings.RelaySettings.{RelaySettings}
 use Rattle.fwd_settings.specs.declared.settings.UserSettings.{UserSettings}
 use Rattle.fwd_settings.specs.declared.settings.OutputSettings.{OutputSettings}
 use Rattle.fwd_settings.specs.declared.settings.ServerSettings.{ServerSettings}
+use Rattle.fwd_settings.specs.declared.settings.ListenAddress.{ListenAddress}
 use Rattle.fwd_settings.specs.declared.settings.WhenFull.{WhenFull}
 use Rattle.fwd_settings.specs.declared.relay.Identity.{Identity}
-use Rattle.fwd_settings.specs.declared.relay.Intake.{Intake}
+use Rattle.fwd_settings.specs.declared.relay.SourceLimits.{SourceLimits}
 use Rattle.fwd_settings.specs.declared.output.Sizes.{Sizes}
 use Rattle.fwd_settings.specs.declared.output.Waits.{Waits}
-use Rattle.fwd_settings.specs.declared.output.Login.{Login}
+use Rattle.fwd_settings.specs.declared.output.LoginSettings.{LoginSettings}
 use Rattle.fwd_settings.specs.declared.ranges.TheConstants.{ACK_WAIT_DEFAULT, CHUNK_LIMIT_DEFAULT, CHUNK_LIMIT_MAX, CONNECTIONS_DEFAULT, CONNECTIONS_MAX, CONTROL_MAX, DEPTH_DEFAULT, DEPTH_MAX, DEPTH_MIN, FLUSH_INTERVAL_DEFAULT, MESSAGE_LIMIT_DEFAULT, MESSAGE_LIMIT_MAX, MESSAGE_LIMIT_MIN, NAME_MAX, OUTPUTS_MAX, READERS_DEFAULT, READERS_MAX, RETRY_MAX_DEFAULT, RETRY_WAIT_DEFAULT, SERVERS_MAX, SHARED_KEY_MAX, STOP_WAIT_DEFAULT, TOTAL_LIMIT_DEFAULT, TOTAL_LIMIT_MAX, WAIT_MAX, WINDOW_DEFAULT, WINDOW_MAX, WORKERS_DEFAULT, WORKERS_MAX}
 use Rattle.fwd_settings.specs.Addresses.{home}
 use Rattle.fwd_settings.specs.Faults.{own_key, key_under}
-use Rattle.fwd_settings.specs.Kinds.{Key, each, fault_at, setting_at, number_key, optional_number_key, flag_key, when_full_key, text_key, optional_text_key, required_text_key, digits_key, address_key, address_key_or, required_address_key, required_pattern_key, required_list_key, optional_list_key}
+use Rattle.fwd_settings.specs.Kinds.{Key, each, fault_at, setting_at, number_key, optional_number_key, flag_key, when_full_key, text_key, optional_text_key, required_text_key, digits_key, address_key, listen_key_or, required_address_key, required_pattern_key, required_list_key, optional_list_key}
 
 -- the first of some faults
 abbrev pub first : List (Option SettingsFault) → Option SettingsFault
@@ -52,8 +53,8 @@ root_names = codes "relay" ∷ codes "output" ∷ []
 -- ---- relay
 
 -- where sources connect
-abbrev pub listen : Key SocketAddr
-listen = address_key_or (codes "listen") home
+abbrev pub listen : Key ListenAddress
+listen = listen_key_or (codes "listen") home
 
 -- where the monitor page is had, if anywhere
 abbrev pub monitor : Key (Option SocketAddr)
@@ -198,7 +199,7 @@ relay_identity relay = record {
 }
 
 -- how much the relay takes of sources, by its keys
-abbrev pub relay_intake : Members → Intake
+abbrev pub relay_intake : Members → SourceLimits
 relay_intake relay = record {
   connections = setting_at relay connections;
   message_limit = setting_at relay message_limit;
@@ -408,7 +409,7 @@ output_waits output = record {
 }
 
 -- what an output says of itself to servers, by its keys
-abbrev pub output_login : Members → Login
+abbrev pub output_login : Members → LoginSettings
 output_login output = record {
   hostname = setting_at output output_hostname;
   shared_key = setting_at output output_shared_key;

@@ -1,5 +1,7 @@
 -- The kinds of values that a key may ask for.
-use Rattle.std.specs.Prelude.{◌≡◌, ◌≢◌, ℕ, ◌&&◌, nat_le, pos, negsuc, Bool, List, [], ◌∷◌, codes, length, ◌+◌, Option, Some, None, is_some, option_map, option_and_then, unwrap_or, Result, Ok, Err, if◌then◌else◌}
+use Rattle.std.specs.Prelude.{◌≡◌, ◌≢◌, ℕ, not, ◌&&◌, nat_le, pos, negsuc, Bool, List, [], ◌∷◌, codes, length, ◌+◌, Option, Some, None, is_some, option_map, option_and_then, unwrap_or, Result, Ok, Err, if◌then◌else◌}
+use Rattle.std.specs.List.{list_any}
+use Rattle.std.specs.Option.{option_or}
 use Rattle.std.specs.Result.{is_ok, result_ok}
 use Rattle.std.specs.Str.{bytes_eq}
 use Rattle.std.specs.declared.net.socket_addr.SocketAddr.{SocketAddr}
@@ -11,9 +13,12 @@ use Rattle.fwd_settings.specs.declared.fault.SettingsFault.TheVariants.{Memory}
 use Rattle.fwd_settings.specs.declared.table_path.TablePath.{TablePath}
 use Rattle.fwd_settings.specs.declared.table_path.Flaw.{Flaw}
 use Rattle.fwd_settings.specs.declared.table_path.Flaw.TheVariants.{Missing, WrongKind, OutOfRange, BadPattern}
+use Rattle.fwd_settings.specs.declared.settings.ListenAddress.{ListenAddress}
+use Rattle.fwd_settings.specs.declared.settings.ListenAddress.TheVariants.{Tcp, Unix}
 use Rattle.fwd_settings.specs.declared.settings.WhenFull.{WhenFull}
 use Rattle.fwd_settings.specs.declared.settings.WhenFull.TheVariants.{Close, Wait}
-use Rattle.fwd_settings.specs.Addresses.{address_of_text, nowhere}
+use Rattle.fwd_settings.specs.declared.ranges.TheConstants.{CONTROL_MAX}
+use Rattle.fwd_settings.specs.Addresses.{address_of_text, behind_unix, is_absolute, is_zero, nowhere}
 use Rattle.fwd_settings.specs.Faults.{fault_with, key_under}
 
 -- A key: its name, what is wrong with what stands there, and the setting that it gives. Where
@@ -172,10 +177,34 @@ unfoldable pub address_key : List ℕ → Key (Option SocketAddr)
 address_key name =
     record { name = name; flaw = optional address_flaw; setting = option_and_then address_of }
 
--- an address, or the default where there is none
-unfoldable pub address_key_or : List ℕ → (default : SocketAddr) → Key SocketAddr
-address_key_or name default =
-    record { name = name; flaw = optional address_flaw; setting = given address_of default }
+-- a path that a Unix socket may have: absolute, no longer than the system has room for, and without
+-- a byte of 0
+abbrev pub is_socket_path : List ℕ → Bool
+is_socket_path path =
+    is_absolute path && (is_within 2 CONTROL_MAX (length path) && not (list_any is_zero path))
+
+-- the path of a Unix socket that a text says, if it says one
+abbrev pub path_of_text : List ℕ → Option (List ℕ)
+path_of_text text =
+    option_and_then (λ path. if is_socket_path path then Some path else None) (behind_unix text)
+
+-- the path of a Unix socket that a value says
+abbrev pub path_of : Data → Option (List ℕ)
+path_of (string text) = path_of_text text
+path_of _ = None
+
+-- where sources connect: at a Unix socket, or at an address
+abbrev pub listen_of : Data → Option ListenAddress
+listen_of value = option_or (option_map Unix (path_of value)) (option_map Tcp (address_of value))
+
+-- what is wrong with a value where one of both is asked for
+abbrev pub listen_flaw : Data → Option Flaw
+listen_flaw value = if is_some (path_of value) then None else address_flaw value
+
+-- where sources connect, or the default where that is not said
+unfoldable pub listen_key_or : List ℕ → (default : SocketAddr) → Key ListenAddress
+listen_key_or name default =
+    record { name = name; flaw = optional listen_flaw; setting = given listen_of (Tcp default) }
 
 -- an address, which has to be there
 unfoldable pub required_address_key : List ℕ → Key SocketAddr

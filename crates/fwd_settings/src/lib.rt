@@ -20,5 +20,5 @@ pub use fault::SettingsFault;
 pub use laws::{accepted_is_in_range, refusals_are_of_the_text};
 pub use read::read_settings;
 pub use settings::{
-    OutputSettings, RelaySettings, ServerSettings, Settings, UserSettings, WhenFull,
+    ListenAddress, OutputSettings, RelaySettings, ServerSettings, Settings, UserSettings, WhenFull,
 };

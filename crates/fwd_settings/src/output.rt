@@ -40,7 +40,7 @@ struct Waits {
 
 /// How an output logs in.
 #[derive(Drop)]
-struct Login {
+struct LoginSettings {
     hostname: Text,
     shared_key: Option<Text>,
     username: Text,
@@ -104,7 +104,7 @@ fn waits_in(alloc: Global, output: usize, table: &Table) -> Result<Waits, Settin
 }
 
 /// The names, the key and the password in an output's table.
-fn login_in(alloc: Global, output: usize, table: &Table) -> Result<Login, SettingsFault>
+fn login_in(alloc: Global, output: usize, table: &Table) -> Result<LoginSettings, SettingsFault>
     ensures { let members = table_view table.now in
         Answers (first (login_table output members)) (output_login members) result }
 {
@@ -114,7 +114,7 @@ fn login_in(alloc: Global, output: usize, table: &Table) -> Result<Login, Settin
     let shared_key = section.optional_text(alloc, "shared_key", 1, SHARED_KEY_MAX)?;
     let username = section.text(alloc, "username", 0, NAME_MAX, "")?;
     let password = section.text(alloc, "password", 0, NAME_MAX, "")?;
-    Ok(Login {
+    Ok(LoginSettings {
         hostname,
         shared_key,
         username,

@@ -57,7 +57,8 @@ pub const NAME_MAX: usize = 255;
 /// The longest shared key, in bytes.
 pub const SHARED_KEY_MAX: usize = 1_024;
 
-/// The longest path of the control socket, in bytes: the system has no room for more (unix(7)).
+/// The longest path of a Unix socket, that of the control socket or the one where sources connect,
+/// in bytes: the system has no room for more (unix(7)).
 pub const CONTROL_MAX: usize = 107;
 
 /// The most bytes of entries that the settings may allow a chunk.

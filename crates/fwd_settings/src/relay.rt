@@ -35,7 +35,7 @@ struct Identity {
 
 /// How much the relay takes of sources.
 #[derive(Clone, Copy)]
-struct Intake {
+struct SourceLimits {
     connections: u16,
     message_limit: u32,
     depth: u8,
@@ -80,7 +80,7 @@ fn identity_in(alloc: Global, table: &Table) -> Result<Identity, SettingsFault>
 }
 
 /// How much the relay takes of sources, by the table `relay`.
-fn intake_in(alloc: Global, table: &Table) -> Result<Intake, SettingsFault>
+fn intake_in(alloc: Global, table: &Table) -> Result<SourceLimits, SettingsFault>
     ensures { let members = table_view table.now in
         Answers (first (intake_table members)) (relay_intake members) result }
 {
@@ -96,7 +96,7 @@ fn intake_in(alloc: Global, table: &Table) -> Result<Intake, SettingsFault>
     let message_limit = message_limit_in(alloc, &relay)?;
     let depth = relay.count(alloc, "depth", DEPTH_MIN, DEPTH_MAX, DEPTH_DEFAULT)?;
     let readers = relay.count(alloc, "readers", 1, READERS_MAX, READERS_DEFAULT)?;
-    Ok(Intake {
+    Ok(SourceLimits {
         connections,
         message_limit,
         depth: depth as u8,
@@ -123,7 +123,7 @@ fn relay_in(alloc: Global, table: &Table) -> Result<RelaySettings, SettingsFault
 {
     let place = TablePath::Relay;
     let relay = Section { place, table };
-    let listen = relay.address_or(alloc, "listen", home())?;
+    let listen = relay.listen_or(alloc, "listen", home())?;
     let monitor = relay.address(alloc, "monitor")?;
     let identity = identity_in(alloc, table)?;
     let intake = intake_in(alloc, table)?;

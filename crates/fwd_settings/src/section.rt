@@ -3,15 +3,16 @@
 ghost use Rattle.std.specs.Prelude.{◌≡◌, ◌≢◌, ◌≤◌, map, IfOk, IfErr, Some, None, option_map};
 ghost use Rattle.toml.specs.Data.{get_member};
 ghost use Rattle.toml.specs.View.{view, table_view};
-ghost use Rattle.fwd_settings.specs.Kinds.{Reads, number_key, optional_number_key, flag_key, when_full_key, text_key, optional_text_key, required_text_key, digits_key, address_key, address_key_or, required_address_key, required_pattern_key, required_list_key, optional_list_key, fault_at, setting_at};
+ghost use Rattle.fwd_settings.specs.Kinds.{Reads, number_key, optional_number_key, flag_key, when_full_key, text_key, optional_text_key, required_text_key, digits_key, address_key, listen_key_or, required_address_key, required_pattern_key, required_list_key, optional_list_key, fault_at, setting_at};
 ghost use Rattle.fwd_settings.specs.Keys as keys;
 
 use crate::fault::SettingsFault;
 use crate::ranges::{RETRY_MAX_DEFAULT, WAIT_MAX};
-use crate::settings::WhenFull;
+use crate::settings::{ListenAddress, WhenFull};
 use crate::table_path::{Flaw, TablePath};
 use crate::values::{
-    address_in, allowed_list_in, digits_in, flag_in, list_in, number_in, text_in, when_full_in,
+    address_in, allowed_list_in, digits_in, flag_in, list_in, number_in, path_in, text_in,
+    when_full_in,
 };
 use fwd_base::Text;
 use fwd_match::{Pattern, PatternFault};
@@ -289,28 +290,31 @@ impl<'a> Section<'a> {
         }
     }
 
-    /// An address, or the default.
+    /// An address or the path of a Unix socket, or the default.
     #[rattlefmt::skip]
     #[tactic(auto, unfolding(
         crate::specs::Kinds::fault_at,
         crate::specs::Kinds::setting_at,
-        crate::specs::Kinds::address_key_or
+        crate::specs::Kinds::listen_key_or
     ))]
-    pub fn address_or(
+    pub fn listen_or(
         &self,
         alloc: Global,
         name: &str,
         default: SocketAddr,
-    ) -> Result<SocketAddr, SettingsFault>
+    ) -> Result<ListenAddress, SettingsFault>
         ensures { Reads self.now.place (table_view self.now.table.now)
-            (address_key_or name.now default) result }
+            (listen_key_or name.now default) result }
     {
-        match self.get(name) {
-            None => Ok(default),
-            Some(value) => match address_in(value) {
-                Ok(address) => Ok(address),
-                Err(flaw) => Err(self.place.fault(alloc, name, flaw)),
-            },
+        let Some(value) = self.get(name) else {
+            return Ok(ListenAddress::Tcp(default));
+        };
+        if let Some(path) = path_in(value) {
+            return Ok(ListenAddress::Unix(Text::from_str(alloc, path)?));
+        }
+        match address_in(value) {
+            Ok(address) => Ok(ListenAddress::Tcp(address)),
+            Err(flaw) => Err(self.place.fault(alloc, name, flaw)),
         }
     }
 

@@ -2,6 +2,7 @@
 
 use fwd_base::{Seq, Text};
 use fwd_match::Pattern;
+use std::fmt;
 use std::net::SocketAddr;
 
 /// All settings.
@@ -13,12 +14,39 @@ pub struct Settings {
     pub outputs: Seq<OutputSettings>,
 }
 
+/// Where sources connect: at a numeric address, or at the Unix socket of an absolute path, 2 to 107
+/// bytes.
+#[derive(Drop)]
+pub enum ListenAddress {
+    Tcp(SocketAddr),
+    Unix(Text),
+}
+
+impl ListenAddress {
+    /// The numeric address, if it is one.
+    pub fn tcp(&self) -> Option<SocketAddr> {
+        match self {
+            ListenAddress::Tcp(address) => Some(*address),
+            ListenAddress::Unix(_) => None,
+        }
+    }
+}
+
+impl fmt::Display for ListenAddress {
+    fn fmt<W: fmt::Write>(&self, f: &mut fmt::Formatter<W>) -> fmt::Result {
+        match self {
+            ListenAddress::Tcp(address) => write!(f, "{address}"),
+            ListenAddress::Unix(path) => write!(f, "unix:{path}"),
+        }
+    }
+}
+
 /// The settings of the relay itself. They are not printed, since the seed, the key and the
 /// passwords are secrets.
 #[derive(Drop)]
 pub struct RelaySettings {
     /// Where sources connect.
-    pub listen: SocketAddr,
+    pub listen: ListenAddress,
     /// Where the monitor page is served, if it is.
     pub monitor: Option<SocketAddr>,
     /// The relay's name, 1 to 255 bytes.

@@ -25,6 +25,8 @@ pub enum Allowed {
     Text(usize, usize),
     /// So many hexadecimal digits.
     Digits(usize),
+    /// A numeric address, or the path of a Unix socket.
+    Listen,
     Address,
     Flag,
     /// What becomes of a request that an output has no room for.
@@ -58,6 +60,12 @@ impl fmt::Display for Allowed {
                 write!(f, "a text of {least} to {most} bytes, in quotes")
             }
             Allowed::Digits(count) => write!(f, "{count} hexadecimal digits, in quotes"),
+            Allowed::Listen => write!(
+                f,
+                "a numeric address and a port from 1 to 65535, as \"192.0.2.1:24224\", or \
+                unix: and an absolute path of at most {CONTROL_MAX} bytes, as \
+                \"unix:/run/forward_relay/sources\", in quotes"
+            ),
             Allowed::Address => f.write_str(
                 "a numeric address and a port from 1 to 65535, in quotes, \
                 as \"192.0.2.1:24224\" or \"[2001:db8::1]:24224\"",
@@ -106,7 +114,7 @@ static ROOT: [KeyRule; 2] = [
 static RELAY: [KeyRule; 15] = [
     KeyRule {
         name: "listen",
-        allowed: Allowed::Address,
+        allowed: Allowed::Listen,
     },
     KeyRule {
         name: "monitor",

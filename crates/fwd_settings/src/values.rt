@@ -5,8 +5,9 @@ ghost use Rattle.toml.specs.Data.{as_str, as_bool};
 ghost use Rattle.toml.specs.View.{view};
 ghost use Rattle.fwd_settings.specs.Kinds.{given, number_flaw, number_of, flag_flaw, text_flaw, when_full_flaw, when_full_of, digits_flaw, bytes_of, address_flaw, list_of, list_flaw, allowed_list_flaw};
 ghost use Rattle.fwd_settings.specs.Kinds as spec;
-ghost use Rattle.fwd_settings.specs.Addresses.{address_of_text, socket_of};
+ghost use Rattle.fwd_settings.specs.Addresses.{address_of_text, at_colon, behind_unix, is_absolute, socket_of};
 
+use crate::ranges::CONTROL_MAX;
 use crate::settings::WhenFull;
 use crate::table_path::Flaw;
 use hex::FromHex;
@@ -121,6 +122,57 @@ pub fn address_in(value: &Value) -> Result<SocketAddr, Flaw>
 {
     let text = value.as_str().ok_or(Flaw::WrongKind)?;
     address_of(text).ok_or(Flaw::OutOfRange)
+}
+
+/// A text cut at its first colon, if it has one.
+fn at_colon(text: &str) -> Option<(&str, &str)>
+    ensures { option_map (λ parts. (parts.0.now, parts.1.now)) result ≡ at_colon text.now }
+{
+    text.split_once(':')
+}
+
+/// What stands behind `unix:`, if a text begins so.
+fn behind_unix(text: &str) -> Option<&str>
+    ensures { option_map (λ path. path.now) result ≡ behind_unix text.now }
+{
+    let (kind, path) = at_colon(text)?;
+    match kind {
+        "unix" => Some(path),
+        _ => None,
+    }
+}
+
+/// Whether a path is absolute.
+fn is_absolute(path: &str) -> bool
+    ensures { result ≡ is_absolute path.now }
+{
+    match path.as_bytes().first() {
+        None => false,
+        Some(byte) => *byte == b'/',
+    }
+}
+
+/// Whether a path is one that a Unix socket may have: absolute, of at most so many bytes as the
+/// system has room for, none of which is 0.
+fn is_socket_path(path: &str) -> bool
+    ensures { result ≡ spec.is_socket_path path.now }
+{
+    is_absolute(path)
+        && 2 <= path.len()
+        && path.len() <= CONTROL_MAX
+        && !path.as_bytes().contains(&0)
+}
+
+/// The path of a Unix socket that a value says, if it says one.
+pub fn path_in(value: &Value) -> Option<&str>
+    ensures { option_map (λ path. path.now) result ≡ spec.path_of (view value.now) }
+{
+    let path = behind_unix(value.as_str()?)?;
+    if is_socket_path(path) {
+        Some(path)
+    } else {
+        None
+    }
 }
 
 /// The members of a list.

@@ -13,8 +13,8 @@ ghost use Rattle.fwd_source.specs.Hearing.{shown, BeginsAsking, IsEndOf, StandsO
 
 use crate::fault::SourceFault;
 use fwd_base::Bytes;
-use fwd_modes::{Batch, Front, InputFault, Reading, read_front, read_request};
-use fwd_msgpack::{Limits, Next, Scanner, Value};
+use fwd_modes::{Batch, FrontRequest, InputFault, Reading, read_front, read_request};
+use fwd_msgpack::{Limits, Next, Scanner, Shape, Value};
 use std::alloc::{AllocError, Global};
 
 /// The bytes behind the last whole value of a connection, of which the first so many were scanned
@@ -81,14 +81,20 @@ fn take_in(
 
 /// The request at the front of bytes of which none was scanned, where `read_front` knows it. A
 /// request that ends in a later piece is walked over twice, as far as its first piece goes.
-fn front_of(alloc: Global, bytes: &[u8], scanned: usize, limits: Limits) -> Option<Front>
+fn front_of(
+    alloc: Global,
+    bytes: &[u8],
+    scanned: usize,
+    limits: Limits,
+    shape: &mut Shape,
+) -> Option<FrontRequest>
     ensures { IfSome result (λ front.
         BeginsAsking limits bytes.now front.request front.len × (scanned ≡ 0)) }
 {
     if scanned > 0 {
         return None;
     }
-    read_front(alloc, bytes, limits)
+    read_front(alloc, bytes, limits, shape)
 }
 
 /// Requests, and a fault behind them.
@@ -133,11 +139,12 @@ pub fn hear<'a>(
     ensures refused { IsRefused scanner.old.limits unparsed.entry.bytes.now → IsOk result }
 {
     let limits = scanner.limits();
+    let mut shape = Shape::new();
     let mut requests = Vec::new(alloc);
     let mut rest = unparsed.bytes;
     let mut scanned = unparsed.scanned;
     'values: loop {
-        if let Some(front) = front_of(alloc, rest, scanned, limits) {
+        if let Some(front) = front_of(alloc, rest, scanned, limits, &mut shape) {
             if let Some(fault) = add(&mut requests, count, front.request)? {
                 return Ok(failed(alloc, requests, fault));
             }

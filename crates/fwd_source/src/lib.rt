@@ -18,5 +18,5 @@ pub use laws::{
     answers_fit, faults_close, judged_by_front, live_source_follows, pieces_are_one,
     requests_are_values, source_stays_sane,
 };
-pub use piece::{Piece, SourceTold};
+pub use piece::Piece;
 pub use source::{AnswerError, Source};

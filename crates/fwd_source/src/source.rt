@@ -236,7 +236,11 @@ impl Source {
         ensures live { self.new.live ≡ source_drains self.old.live count }
         ensures room { self.new.room ≡ self.old.room + count }
     {
-        self.unsent.drain(..count);
+        if count == self.unsent.len() {
+            self.unsent.clear();
+        } else if count > 0 {
+            self.unsent.drain(..count);
+        }
     }
 
     /// No further piece is taken, and what waits is dropped.

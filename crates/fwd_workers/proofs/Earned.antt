@@ -3,23 +3,23 @@ use Rattle.std.proofs.Common.{◌≡◌, ◌≤◌, ◌+◌, ℕ, List}
 use Rattle.std.specs.Prelude.{is_some}
 use Rattle.std.proofs.Math.Logic.{∥∥₁_elim, ∥∥₁_map, ∥∥₁_prop}
 use Rattle.fwd_session.specs.ServerAcks.{Accepted}
-use Rattle.fwd_workers.specs.Links.{Call}
+use Rattle.fwd_environment.specs.Links.{Call}
 use Rattle.std.specs.List.{AllByRecursion}
 use Rattle.fwd_workers.specs.declared.upstream.WorkerState.{WorkerState}
-use Rattle.fwd_workers.specs.declared.upstream.WorkerState.TheVariants as stage
+use Rattle.fwd_workers.specs.declared.upstream.WorkerState.TheVariants as state
 use Rattle.fwd_workers.specs.Working.{IsAcknowledgedOver, IsEarned, accepted_at, entries_in}
 use Rattle.fwd_workers.proofs.Earning.{earned-then, upstream-over}
 
-pub stage-over : {L : Type 0} {g : _} (at : WorkerState L g)
+pub state-over : {L : Type 0} {g : _} (at : WorkerState L g)
     → ∥ AllByRecursion (IsAcknowledgedOver g.calls) (accepted_at at) ∥₁
-stage-over stage.Idle = ∣ tt ∣₁
-stage-over stage.Seeking = ∣ tt ∣₁
-stage-over (stage.Sought free) = ∣ tt ∣₁
-stage-over (stage.Standing free) = ∣ tt ∣₁
-stage-over (stage.Took free chunk) = ∣ tt ∣₁
-stage-over (stage.Added roomy chunk) = ∣ tt ∣₁
-stage-over {L} {g} (stage.Loaded upstream) = upstream-over g.calls upstream.link upstream.session (is_some upstream.ending) upstream.of_link
-stage-over {L} {g} (stage.Settled upstream) = upstream-over g.calls upstream.link upstream.session (is_some upstream.ending) upstream.of_link
+state-over state.Idle = ∣ tt ∣₁
+state-over state.Seeking = ∣ tt ∣₁
+state-over (state.Sought free) = ∣ tt ∣₁
+state-over (state.Standing free) = ∣ tt ∣₁
+state-over (state.Took free chunk) = ∣ tt ∣₁
+state-over (state.Added roomy chunk) = ∣ tt ∣₁
+state-over {L} {g} (state.Loaded upstream) = upstream-over g.calls upstream.link upstream.session (is_some upstream.ending) upstream.of_link
+state-over {L} {g} (state.Settled upstream) = upstream-over g.calls upstream.link upstream.session (is_some upstream.ending) upstream.of_link
 
 -- a run in which no more was added yet, and then no more than what was acknowledged over a link
 pub run-then : {Link : Type 0} (calls : Link → List Call) (kept : ℕ → ℕ)

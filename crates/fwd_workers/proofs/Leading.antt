@@ -12,12 +12,12 @@ use Rattle.fwd_session.specs.History.{Setup, first_in, is_done, told_by, told_of
 use Rattle.fwd_session.specs.Live.{LiveSession, live_acked, live_is_late, live_is_ready, live_piece_told, live_room, live_says, session_begins, session_hears, session_listens, session_loads, session_looks, session_takes, session_unloads}
 use Rattle.fwd_workers.specs.declared.ending.EndReason.{EndReason}
 use Rattle.fwd_workers.specs.declared.ending.EndReason.TheVariants as ending
-use Rattle.fwd_workers.specs.declared.link.LossReason.{LossReason}
+use Rattle.fwd_environment.specs.declared.link.LossReason.{LossReason}
 use Rattle.fwd_workers.specs.declared.serve.Served.{Served}
 use Rattle.fwd_workers.specs.declared.serve.Served.TheVariants as served
 use Rattle.fwd_workers.specs.Endings.{loss_in}
 use Rattle.fwd_workers.specs.Working.{IsTended}
-use Rattle.fwd_workers.specs.Links.{Call}
+use Rattle.fwd_environment.specs.Links.{Call}
 use Rattle.fwd_workers.specs.Served.{Seen, seen_in, HasTurned, Sends, Hears, HasHeard, IsServed, Deed, Serves, Loads, Looks, Unloads, Does, Lives, HasLived, HasLost, IsOfLink}
 
 -- ---- a life goes on

@@ -3,7 +3,7 @@ use Rattle.std.proofs.Common.{◌≡◌, ◌⊎◌, inl, inr, true, false, List,
 use Rattle.std.specs.Prelude.{ℕ, is_some, option_map}
 use Rattle.fwd_session.specs.Live.{LiveSession}
 use Rattle.fwd_workers.specs.declared.ending.EndReason.{EndReason}
-use Rattle.fwd_workers.specs.Links.{Call}
+use Rattle.fwd_environment.specs.Links.{Call}
 use Rattle.fwd_workers.specs.Working.{IsTended, Lasts}
 
 none-is : false ≡ true → ⊥

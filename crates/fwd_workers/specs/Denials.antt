@@ -1,16 +1,8 @@
 -- Why a server does not let the relay in, as it says.
-use Rattle.std.specs.Prelude.{ℕ, Bool, true, false, List, [], ◌∷◌, codes, Option, None, if◌then◌else◌}
+use Rattle.std.specs.Prelude.{ℕ, List, [], ◌∷◌, codes, Option, None, if◌then◌else◌}
 use Rattle.std.specs.Option.{option_and_then}
 use Rattle.fwd_msgpack.specs.Scans.{elements_of, text_of}
 use Rattle.fwd_msgpack.specs.Texts.{is_text}
-use Rattle.fwd_session.specs.declared.fault.SessionFault.TheVariants as session
-use Rattle.fwd_workers.specs.declared.link.LossReason.{LossReason}
-use Rattle.fwd_workers.specs.declared.link.LossReason.TheVariants as loss
-
--- a server is lost, since it did not let the relay in
-abbrev pub is_denial : LossReason → Bool
-is_denial (loss.Fault session.Denied) = true
-is_denial why = false
 
 -- the third value of a message whose first is the word PONG
 abbrev pub reason_among : List (List ℕ) → Option (List ℕ)

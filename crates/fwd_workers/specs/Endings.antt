@@ -1,17 +1,17 @@
 -- Why a worker's session ends, and what that counts as.
 use Rattle.std.specs.Prelude.{ℕ, ◌==◌, Bool, true, false, Option, Some, None, if◌then◌else◌}
-use Rattle.fwd_core.specs.EndKind.{EndKind}
-use Rattle.fwd_core.specs.EndKind.TheVariants as end
+use Rattle.fwd_output.specs.EndKind.{EndKind}
+use Rattle.fwd_output.specs.EndKind.TheVariants as end
 use Rattle.fwd_workers.specs.declared.ending.EndReason.{EndReason}
 use Rattle.fwd_workers.specs.declared.ending.EndReason.TheVariants as ending
 use Rattle.fwd_workers.specs.declared.ending.NoSession.{NoSession}
 use Rattle.fwd_workers.specs.declared.ending.NoSession.TheVariants as unmet
-use Rattle.fwd_workers.specs.declared.link.LinkFault.{LinkFault}
-use Rattle.fwd_workers.specs.declared.link.LinkFault.TheVariants as link
-use Rattle.fwd_workers.specs.declared.link.LossReason.{LossReason}
-use Rattle.fwd_workers.specs.declared.link.LossReason.TheVariants as loss
-use Rattle.fwd_workers.specs.declared.link.WorkerEvent.{WorkerEvent}
-use Rattle.fwd_workers.specs.declared.link.WorkerEvent.TheVariants as news
+use Rattle.fwd_environment.specs.declared.link.LinkFault.{LinkFault}
+use Rattle.fwd_environment.specs.declared.link.LinkFault.TheVariants as link
+use Rattle.fwd_environment.specs.declared.link.LossReason.{LossReason}
+use Rattle.fwd_environment.specs.declared.link.LossReason.TheVariants as loss
+use Rattle.fwd_environment.specs.declared.link.WorkerEvent.{WorkerEvent}
+use Rattle.fwd_environment.specs.declared.link.WorkerEvent.TheVariants as event
 use Rattle.fwd_workers.specs.declared.serve.Served.{Served}
 use Rattle.fwd_workers.specs.declared.serve.Served.TheVariants as served
 
@@ -60,7 +60,7 @@ kind_in (Some why) = kind_of why
 abbrev pub news_of : EndReason → (server chunks : ℕ) → Option WorkerEvent
 news_of ending.Spent server chunks = None
 news_of ending.Left server chunks = None
-news_of (ending.Lost why) server chunks = Some (news.Lost server why chunks)
+news_of (ending.Lost why) server chunks = Some (event.Lost server why chunks)
 
 -- why no session began where no link could be had: want of memory is no fault of a link
 abbrev pub unmet_of : LinkFault → NoSession
@@ -81,11 +81,11 @@ blamed unmet.Memory server = None
 
 -- what is told of that: a session with that server could not be had, and why; it had no chunk
 abbrev pub unmet_news : NoSession → (server : ℕ) → Option WorkerEvent
-unmet_news (unmet.Link fault) server = Some (news.Lost server (loss.Link fault) 0)
-unmet_news unmet.Memory server = Some (news.Lost server loss.Memory 0)
+unmet_news (unmet.Link fault) server = Some (event.Lost server (loss.Link fault) 0)
+unmet_news unmet.Memory server = Some (event.Lost server loss.Memory 0)
 
 -- what is told where a chunk is loaded: the server that it goes to, where the worker's last one
 -- went to another
 abbrev pub went_of : (last : Option ℕ) → (server : ℕ) → Option WorkerEvent
 went_of None server = None
-went_of (Some last) server = if last == server then None else Some (news.Went server)
+went_of (Some last) server = if last == server then None else Some (event.Went server)

@@ -35,12 +35,12 @@ use Rattle.fwd_session.specs.Live.{
   session_sends,
   session_unloads,
 }
-use Rattle.fwd_workers.specs.declared.link.Read.{Read}
-use Rattle.fwd_workers.specs.declared.link.Read.TheVariants as read
-use Rattle.fwd_workers.specs.declared.link.LinkFault.{LinkFault}
+use Rattle.fwd_environment.specs.declared.link.Read.{Read}
+use Rattle.fwd_environment.specs.declared.link.Read.TheVariants as read
+use Rattle.fwd_environment.specs.declared.link.LinkFault.{LinkFault}
 use Rattle.fwd_workers.specs.declared.serve.Served.{Served}
 use Rattle.fwd_workers.specs.declared.serve.Served.TheVariants as served
-use Rattle.fwd_workers.specs.Links.{
+use Rattle.fwd_environment.specs.Links.{
   Call,
   IsOffer,
   read_into,

@@ -2,31 +2,12 @@
 
 ghost use Rattle.std.specs.Prelude.{◌≡◌};
 ghost use Rattle.fwd_msgpack.specs.Values.{bytes_of, text_shown};
-ghost use Rattle.fwd_workers.specs.Denials.{is_denial, reason_in};
+ghost use Rattle.fwd_workers.specs.Denials.{reason_in};
 
 use crate::ending::EndReason;
-use crate::link::LossReason;
-use crate::refused::TextFront;
+use fwd_environment::{Denial, TextFront};
 use fwd_msgpack::{Next, Value, next_value};
-use fwd_session::{REPLY_LIMITS, SessionFault};
-
-/// A server that does not let the relay in.
-#[derive(Clone, Copy)]
-pub struct Denial {
-    /// The server, by its place in the output's list.
-    pub server: u16,
-    /// The first bytes of the reason that its PONG tells.
-    pub reason: TextFront,
-}
-
-impl LossReason {
-    /// Whether the server did not let the relay in.
-    pub fn is_denial(self) -> bool
-        ensures { result ≡ is_denial self }
-    {
-        matches!(self, LossReason::Fault(SessionFault::Denied))
-    }
-}
+use fwd_session::REPLY_LIMITS;
 
 /// The reason that a PONG tells.
 fn reason_of<'a>(pong: Value<'a>) -> Option<&'a [u8]>

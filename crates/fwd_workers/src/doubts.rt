@@ -1,11 +1,15 @@
 //! What a worker remembers of losses, by which it chooses with which chunk it tries a server.
 
-use crate::denial::Denial;
+ghost use Rattle.std.specs.Prelude.{◌≡◌, ◌<◌, None, IfSome};
+ghost use Rattle.fwd_chunks.specs.Cells.{size_of};
+ghost use Rattle.fwd_workers.specs.Doubting.{doubts_begin, doubts_load, doubts_lose, doubts_settle};
+
 use crate::ending::EndReason;
-use crate::refused::{Refused, Suspect};
-use crate::tally::Tally;
+use crate::refused::Suspect;
 use crate::turn_context::TurnContext;
 use fwd_chunks::Carried;
+use fwd_environment::{Denial, Refused};
+use fwd_output::Tally;
 use std::mem;
 use std::sync::Wait;
 
@@ -54,7 +58,9 @@ impl Doubts {
     }
 
     /// A session begins with a server that is tried for its own sake: nothing is asked once more.
-    pub(crate) fn begin(&mut self) {
+    pub(crate) fn begin(&mut self)
+        ensures { self.new ≡ doubts_begin self.old }
+    {
         self.ask = None;
         self.is_asking = false;
         self.leaves = false;
@@ -68,7 +74,11 @@ impl Doubts {
         context: &TurnContext<'_, A, S, R>,
         server: u16,
         chunk: &Carried,
-    ) -> Option<Suspect> {
+    ) -> Option<Suspect>
+        ensures few { self.now.losses < SUSPECT → result ≡ None }
+        ensures of { IfSome result (λ s. (s.size ≡ size_of chunk.now.entries)
+            × (s.losses ≡ self.now.losses)) }
+    {
         if self.losses < SUSPECT || context.out.is_doubted(context.rt, server) {
             return None;
         }
@@ -76,20 +86,26 @@ impl Doubts {
     }
 
     /// The first chunk of a session is loaded, which may be one that its server refuses.
-    pub(crate) fn load(&mut self, suspect: Option<Suspect>) {
+    pub(crate) fn load(&mut self, suspect: Option<Suspect>)
+        ensures { self.new ≡ doubts_load self.old suspect }
+    {
         self.alone = 0 < self.losses;
         self.suspect = suspect;
     }
 
     /// A chunk of the session was settled: its server works.
-    pub(crate) fn settle(&mut self) {
+    pub(crate) fn settle(&mut self)
+        ensures { self.new ≡ doubts_settle self.old }
+    {
         self.is_asking = false;
         self.suspect = None;
     }
 
     /// A session with this server ended with chunks that are lost. The server is asked once more,
     /// unless it just was.
-    pub(crate) fn lose(&mut self, server: u16, why: EndReason) {
+    pub(crate) fn lose(&mut self, server: u16, why: EndReason)
+        ensures { self.new ≡ doubts_lose self.old server why }
+    {
         let was_asking = mem::replace(&mut self.is_asking, false);
         self.ask = if was_asking { None } else { Some(server) };
         self.refused = match self.suspect.take() {

@@ -12,10 +12,10 @@ ghost use Rattle.fwd_workers.specs.Endings.{
   unmet_of,
 };
 
-use crate::link::{LinkFault, LossReason, WorkerEvent};
 use crate::serve::Served;
 use fwd_chunks::Carried;
-use fwd_core::{EndKind, Leaving};
+use fwd_environment::{LinkFault, LossReason, WorkerEvent};
+use fwd_output::{EndKind, Leaving};
 use std::alloc::Global;
 
 /// Why a session is to end.
@@ -55,7 +55,7 @@ impl EndReason {
     }
 
     /// What is told of it, where so many chunks of the session are not acknowledged.
-    pub(crate) fn news(self, server: u16, chunks: u64) -> Option<WorkerEvent>
+    pub(crate) fn event(self, server: u16, chunks: u64) -> Option<WorkerEvent>
         ensures { result ≡ news_of self server chunks }
     {
         match self {
@@ -131,12 +131,12 @@ impl NoSession {
     }
 
     /// What is told of it.
-    pub(crate) fn news(self, server: u16) -> Option<WorkerEvent>
+    pub(crate) fn event(self, server: u16) -> Option<WorkerEvent>
         ensures { result ≡ unmet_news self server }
     {
         match self {
-            NoSession::Link(fault) => EndReason::Lost(LossReason::Link(fault)).news(server, 0),
-            NoSession::Memory => EndReason::Lost(LossReason::Memory).news(server, 0),
+            NoSession::Link(fault) => EndReason::Lost(LossReason::Link(fault)).event(server, 0),
+            NoSession::Memory => EndReason::Lost(LossReason::Memory).event(server, 0),
         }
     }
 }

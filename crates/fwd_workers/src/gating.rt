@@ -3,14 +3,14 @@
 ghost use Rattle.std.specs.Prelude.{◌≡◌};
 ghost use Rattle.fwd_workers.specs.Working.{place_of};
 
-use crate::link::{Link, Place};
 use crate::upstream::WorkerState;
+use fwd_environment::{Link, Place};
 
 /// Where the gate is asked: nowhere while the server is waited for, and no chunk may be added.
-pub(crate) fn place<L: Link>(stage: &WorkerState<L>) -> Option<Place>
-    ensures { result ≡ place_of stage.now }
+pub(crate) fn place<L: Link>(state: &WorkerState<L>) -> Option<Place>
+    ensures { result ≡ place_of state.now }
 {
-    match stage {
+    match state {
         WorkerState::Idle
         | WorkerState::Seeking
         | WorkerState::Sought(_)

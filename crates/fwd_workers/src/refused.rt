@@ -1,52 +1,12 @@
 //! A chunk that a server seems to refuse, as it is told.
 
+ghost use Rattle.std.specs.Prelude.{◌≡◌};
+ghost use Rattle.fwd_chunks.specs.Cells.{size_of};
+ghost use Rattle.fwd_workers.specs.Doubting.{refused_of};
+
 use crate::ending::EndReason;
-use crate::link::LossReason;
 use fwd_chunks::Carried;
-
-/// How many bytes of a tag are told.
-const SHOWN: usize = 64;
-
-/// The first bytes of a tag, at most 64.
-#[derive(Clone, Copy)]
-pub struct TextFront {
-    bytes: [u8; SHOWN],
-    count: usize,
-}
-
-impl TextFront {
-    /// The first bytes of this tag.
-    pub fn of(tag: &[u8]) -> TextFront {
-        let mut bytes = [0; SHOWN];
-        for (to, byte) in bytes.iter_mut().zip(tag) {
-            *to = *byte;
-        }
-        let count = tag.len().min(SHOWN);
-        TextFront { bytes, count }
-    }
-
-    /// These bytes.
-    pub fn as_slice(&self) -> &[u8] {
-        let count = self.count.min(SHOWN);
-        &self.bytes[..count]
-    }
-}
-
-/// A chunk that was lost three times or more, the last time at a server that had acknowledged
-/// others since it was lost before: the server seems to refuse just this chunk.
-#[derive(Clone, Copy)]
-pub struct Refused {
-    /// The server, by its place in the output's list.
-    pub server: u16,
-    /// The first bytes of the chunk's tag.
-    pub tag: TextFront,
-    /// The bytes of its entries.
-    pub size: u64,
-    /// How often it was lost, where 66 stands for every greater count.
-    pub losses: u8,
-    /// Why its last session ended.
-    pub why: LossReason,
-}
+use fwd_environment::{Refused, TextFront};
 
 /// A chunk that was lost before, in a session with a server that is known to work.
 #[derive(Clone, Copy)]
@@ -58,7 +18,10 @@ pub(crate) struct Suspect {
 
 impl Suspect {
     /// A chunk that was lost so often before.
-    pub(crate) fn of(chunk: &Carried, losses: u8) -> Suspect {
+    pub(crate) fn of(chunk: &Carried, losses: u8) -> Suspect
+        ensures size { result.size ≡ size_of chunk.now.entries }
+        ensures losses { result.losses ≡ losses }
+    {
         Suspect {
             tag: TextFront::of(chunk.tag()),
             size: chunk.body().size(),
@@ -67,7 +30,9 @@ impl Suspect {
     }
 
     /// What is told of it, where its session with this server ended for a loss.
-    pub(crate) fn refused(self, server: u16, why: EndReason) -> Option<Refused> {
+    pub(crate) fn refused(self, server: u16, why: EndReason) -> Option<Refused>
+        ensures { result ≡ refused_of self server why }
+    {
         let EndReason::Lost(why) = why else {
             return None;
         };

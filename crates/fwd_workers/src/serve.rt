@@ -17,7 +17,7 @@ ghost use Rattle.std.specs.Prelude.{
   take,
 };
 ghost use Rattle.fwd_session.specs.Live.{live_room, session_sends};
-ghost use Rattle.fwd_workers.specs.Links.{HasOffered, IsOffer, write_of};
+ghost use Rattle.fwd_environment.specs.Links.{HasOffered, IsOffer, write_of};
 ghost use Rattle.fwd_workers.specs.Served.{
   HasRead,
   HasTurned,
@@ -29,7 +29,7 @@ ghost use Rattle.fwd_workers.specs.Served.{
   takes_more,
 };
 
-use crate::link::{Link, LinkFault, Read};
+use fwd_environment::{Link, LinkFault, Read};
 use fwd_session::{Session, SessionFault, SessionHeard};
 use std::alloc::Global;
 use std::sync::Wait;

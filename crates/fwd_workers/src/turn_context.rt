@@ -1,8 +1,7 @@
 //! What a worker's turn has at hand.
 
-use crate::link::{Clock, Hub};
-use crate::shared::SharedOutput;
-use crate::tally::Tally;
+use fwd_environment::{Clock, Hub};
+use fwd_output::{SharedOutput, Tally};
 use std::sync::Wait;
 
 /// What a worker's turn has at hand: the runtime, the output, and the moment (milliseconds).

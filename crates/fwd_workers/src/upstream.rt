@@ -5,8 +5,8 @@ ghost use Rattle.fwd_session.specs.Live.{live_is_ready, live_room};
 ghost use Rattle.fwd_workers.specs.Served.{IsFree, IsOfLink, may_add, seen_in};
 
 use crate::ending::EndReason;
-use crate::link::Link;
 use fwd_chunks::Carried;
+use fwd_environment::Link;
 use fwd_session::Session;
 
 /// A link, and the session that it carries. The session has lived over just this link, from its

@@ -8,9 +8,9 @@ ghost use Rattle.fwd_workers.specs.Served.{IsFree};
 ghost use Rattle.fwd_workers.specs.Working.{IsTended};
 
 use crate::ending::{EndReason, loss_in};
-use crate::link::{Link, LossReason};
 use crate::serve::serve_in_room;
 use crate::upstream::{IdleUpstream, Upstream};
+use fwd_environment::{Link, LossReason};
 use fwd_session::Session;
 use std::alloc::Global;
 use std::sync::Wait;

@@ -1,6 +1,6 @@
 //! Sources of large requests, of random bytes, and of requests whose answers they do not read.
 
-use crate::line::Line;
+use crate::peer_connection::PeerConnection;
 use anyhow::{Result, anyhow};
 use std::alloc::Global;
 use std::io::{Read, Write};
@@ -44,7 +44,7 @@ const REQUESTS: usize = 256;
 const WRITES: u32 = 1_000;
 
 /// A source sends the large request.
-pub fn send_large(source: &Line) -> Result<()> {
+pub fn send_large(source: &PeerConnection) -> Result<()> {
     source.send(FRONT)?;
     let piece = [b'z'; PIECE];
     for _ in 0..SIZE / PIECE {
@@ -77,7 +77,7 @@ fn asking(alloc: Global) -> Result<Vec<u8>> {
 /// A source sends requests and reads nothing: how many bytes it sent until the relay took no more.
 /// A source that does not take what it is told is not read, so that no more than 65,536 bytes and
 /// what is told of the requests that were read before are kept for it.
-pub fn flood(alloc: Global, source: &Line) -> Result<usize> {
+pub fn flood(alloc: Global, source: &PeerConnection) -> Result<usize> {
     let mut writer = &source.stream;
     writer.set_write_timeout(Some(Duration::from_millis(PATIENCE)))?;
     let requests = asking(alloc)?;
@@ -93,7 +93,7 @@ pub fn flood(alloc: Global, source: &Line) -> Result<usize> {
 }
 
 /// Whether a source that begins to read is told of all its requests. It sent so many bytes of them.
-pub fn is_drained(source: &Line, sent: usize) -> Result<bool> {
+pub fn is_drained(source: &PeerConnection, sent: usize) -> Result<bool> {
     let due = sent / REQUEST * ACKED;
     let mut told = 0_usize;
     let mut room = [0; 16_384];

@@ -3,11 +3,11 @@
 //! connection is not answered.
 
 use crate::frame::MESSAGE;
-use crate::heard::Said;
-use crate::post::Mood::{Closes, Serves};
+use crate::polled_server::Mood::{Closes, Serves};
+use crate::run_events::Said;
 use crate::scene::{Play, SCENE, Scene};
-use crate::site::{Output, PLAIN, Role};
 use crate::step::Step;
+use crate::test_relay::{Output, PLAIN, Role};
 
 /// A primary and a standby.
 const ONE: [Role; 3] = [Role::Primary, Role::Standby, Role::None];

@@ -1,33 +1,26 @@
 //! A relay over sockets, with sources, servers and a monitor around it, all on this machine, and
-//! what a run says of each event, by a clock that is set by hand, how its lines are paced, which
-//! environments ask for them, how runs end, and turns that are made by hand. It prints what holds
-//! whatever the order of the threads' turns.
+//! turns that are made by hand. It prints what holds whatever the order of the threads' turns.
 #![tactic(auto)]
 
-mod asking;
-mod by_hand;
-mod ends;
-mod events;
 mod extremes;
 mod frame;
-mod hand;
-mod heard;
-mod line;
 mod losses;
-mod pacing;
-mod post;
+mod manual_turns;
+mod peer_connection;
+mod polled_server;
 mod record;
+mod run_events;
 mod running;
 mod scene;
+mod scene_run;
 mod scenes;
 mod sealed;
 mod server;
-mod site;
-mod stage;
 mod starts;
 mod step;
-mod told;
+mod test_relay;
 mod traffic;
+mod transcript;
 mod windows;
 
 use crate::scene::play_all;
@@ -92,17 +85,7 @@ fn main(rt: HostRuntime) {
     say_both_scenes(&rt, play_all(&rt, &scenes::SCENES, 1), with_four);
     say_scenes(&rt, play_all(&rt, &losses::LOSSES, 1));
     say_scenes(&rt, play_all(&rt, &windows::WINDOWS, 1));
-    say(&rt, by_hand::text_of_turns(&rt, 17));
+    say(&rt, manual_turns::text_of_turns(&rt, 17));
     say_next(&rt);
     say(&rt, starts::text_of_starts(&rt, 15));
-    say_next(&rt);
-    events::say_each(&rt);
-    say_next(&rt);
-    pacing::say_many(&rt);
-    say_next(&rt);
-    let _ = pacing::say_unwritten(&rt, rt.alloc());
-    say_next(&rt);
-    asking::say_asked(&rt);
-    say_next(&rt);
-    ends::say_ends(&rt);
 }

@@ -1,6 +1,6 @@
 //! A relay runs, beside those around it.
 
-use crate::heard::Heard;
+use crate::run_events::RunEvents;
 use fwd_chunks::Report;
 use fwd_loop::{Beside, Loop, Opened, Platform, StartFault, Started, Turns, close_all};
 use std::net::{Net, TcpListener, TcpStream};
@@ -29,7 +29,7 @@ pub trait Turner {
 /// Makes turns until they are to end. One waits 100 milliseconds at most.
 #[derive(Drop)]
 pub struct Until<'a> {
-    pub heard: Heard,
+    pub heard: RunEvents,
     pub over: &'a AtomicBool,
     /// Why they ended before that.
     pub fault: Option<StartFault>,

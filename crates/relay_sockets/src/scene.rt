@@ -1,12 +1,12 @@
 //! A scene: a relay, and what happens around it.
 
-use crate::heard::{Heard, Said};
-use crate::post::Mood;
+use crate::polled_server::Mood;
+use crate::run_events::{RunEvents, Said};
 use crate::running::{Until, run};
+use crate::scene_run::SceneRun;
 use crate::sealed::Sealed;
-use crate::site::{Output, PLAIN, SEED};
-use crate::stage::Stage;
 use crate::step::Step;
+use crate::test_relay::{Output, PLAIN, SEED};
 use crate::traffic::{play_alone, play_deaths};
 use anyhow::{Result, anyhow, bail};
 use fwd_chunks::Report;
@@ -71,7 +71,7 @@ impl Scene {
     fn play<R: Net<Listener = TcpListener, Stream = TcpStream> + Clock>(
         self,
         rt: &R,
-        stage: &mut Stage,
+        stage: &mut SceneRun,
     ) -> Result<()> {
         match self.play {
             Play::Steps(steps) => {
@@ -89,7 +89,7 @@ impl Scene {
     fn play_out<R: Net<Listener = TcpListener, Stream = TcpStream> + Clock>(
         self,
         rt: &R,
-        stage: &mut Stage,
+        stage: &mut SceneRun,
     ) -> Result<()> {
         let played = self.play(rt, stage);
         if played.is_err() {
@@ -115,7 +115,7 @@ impl Scene {
     }
 
     /// Appends what its relay came to.
-    fn put_end(self, stage: &mut Stage, reports: &[Report], heard: &Heard) -> Result<()> {
+    fn put_end(self, stage: &mut SceneRun, reports: &[Report], heard: &RunEvents) -> Result<()> {
         if self.is_counted {
             stage.told.put_counts(reports)?;
         }
@@ -131,7 +131,7 @@ impl Scene {
     fn run<R: Platform>(
         self,
         rt: &R,
-        stage: &mut Stage,
+        stage: &mut SceneRun,
         until: &mut Until<'_>,
     ) -> Result<Vec<Report>> {
         let relay = stage
@@ -155,10 +155,10 @@ impl Scene {
     }
 
     /// The same, and appends what it came to.
-    fn put_run<R: Platform>(self, rt: &R, stage: &mut Stage) -> Result<()> {
+    fn put_run<R: Platform>(self, rt: &R, stage: &mut SceneRun) -> Result<()> {
         let is_over = AtomicBool::new(false);
         let mut until = Until {
-            heard: Heard::new(rt.alloc()),
+            heard: RunEvents::new(rt.alloc()),
             over: &is_over,
             fault: None,
         };
@@ -177,7 +177,7 @@ impl Scene {
     /// What is printed of it, with so many readers. What failed is printed too, so that one scene
     /// does not hide another.
     fn text<R: Platform>(self, rt: &R, readers: u16) -> Result<String> {
-        let mut stage = Stage::new(rt, rt.alloc(), self.host)?;
+        let mut stage = SceneRun::new(rt, rt.alloc(), self.host)?;
         stage.site.readers = if self.is_of_one { 1 } else { readers };
         stage.told.begin(self.title);
         let played = self.put_run(rt, &mut stage);

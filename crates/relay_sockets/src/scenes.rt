@@ -1,10 +1,10 @@
 //! Scenes of a relay, its sources, its servers and its monitors.
 
 use crate::frame::{EMPTY, MESSAGE};
-use crate::heard::Said;
+use crate::run_events::Said;
 use crate::scene::{Play, SCENE, Scene};
-use crate::site::{KEYED, Output, PLAIN, Role};
 use crate::step::Step;
+use crate::test_relay::{KEYED, Output, PLAIN, Role};
 
 /// The front of a message in the middle of its map, and the byte that no value begins with.
 const TORN: &[u8] = b"\x94\xa1a\x01\x80\x81\xa5";

@@ -1,9 +1,9 @@
 //! Why a relay does not start, and what is said of it.
 
+use crate::scene_run::SceneRun;
 use crate::sealed::Sealed;
-use crate::site::{PLAIN, SEED, Site};
-use crate::stage::Stage;
-use crate::told::Told;
+use crate::test_relay::{PLAIN, SEED, TestRelay};
+use crate::transcript::Transcript;
 use anyhow::{Result, anyhow};
 use fwd_loop::StartFault;
 use std::net::{Net, SocketAddr, TcpListener, TcpStream};
@@ -12,7 +12,7 @@ use std::rt::Clock;
 /// What a relay with these keys says that does not start.
 fn start<R: Net<Listener = TcpListener, Stream = TcpStream> + AllocGlobal>(
     rt: &R,
-    site: Site,
+    site: TestRelay,
     keys: &str,
 ) -> Result<String> {
     match site.relay(&Sealed::new(rt), 8, keys, &[PLAIN]) {
@@ -24,7 +24,7 @@ fn start<R: Net<Listener = TcpListener, Stream = TcpStream> + AllocGlobal>(
 /// Whether a relay does not start since this address is taken, and says so.
 fn is_refused<R: Net<Listener = TcpListener, Stream = TcpStream> + AllocGlobal>(
     rt: &R,
-    site: Site,
+    site: TestRelay,
     taken: SocketAddr,
 ) -> Result<bool> {
     let due = format!(in rt.alloc(); "listen: {taken}")?;
@@ -35,15 +35,15 @@ fn is_refused<R: Net<Listener = TcpListener, Stream = TcpStream> + AllocGlobal>(
 /// there is no seed, and no file to draw one from.
 fn tell_starts<R: Net<Listener = TcpListener, Stream = TcpStream> + AllocGlobal>(
     rt: &R,
-    site: Site,
-    told: &mut Told,
+    site: TestRelay,
+    told: &mut Transcript,
 ) -> Result<()> {
     let taken = site.servers[0];
-    let front = Site {
+    let front = TestRelay {
         sources: taken,
         ..site
     };
-    let behind = Site {
+    let behind = TestRelay {
         monitors: taken,
         ..site
     };
@@ -57,7 +57,7 @@ pub fn text_of_starts<R: Net<Listener = TcpListener, Stream = TcpStream> + Clock
     rt: &R,
     host: u8,
 ) -> Result<String> {
-    let mut stage = Stage::new(rt, rt.alloc(), host)?;
+    let mut stage = SceneRun::new(rt, rt.alloc(), host)?;
     stage.told.begin("no start");
     let told = tell_starts(rt, stage.site, &mut stage.told);
     stage.told.note(told);

@@ -1,11 +1,11 @@
 //! Requests of several sources to a relay with two primaries and a standby: one at a time, or with
 //! several under way while primaries die and come back.
 
-use crate::line::{Came, Line};
-use crate::post::{Mood, Post};
+use crate::peer_connection::{Came, PeerConnection};
+use crate::polled_server::{Mood, PolledServer};
 use crate::record::{Record, TOLD_LEN};
-use crate::stage::Stage;
-use crate::told::Told;
+use crate::scene_run::SceneRun;
+use crate::transcript::Transcript;
 use anyhow::{Result, anyhow};
 use std::net::{Net, TcpListener, TcpStream};
 use std::rt::Clock;
@@ -53,10 +53,10 @@ enum Course {
 /// The sources and the servers.
 #[derive(Drop)]
 struct Traffic {
-    sources: Vec<Line>,
-    first: Post,
-    second: Post,
-    third: Post,
+    sources: Vec<PeerConnection>,
+    first: PolledServer,
+    second: PolledServer,
+    third: PolledServer,
     record: Record,
     course: Course,
     /// Whether the second primary dies with the first.
@@ -66,19 +66,19 @@ struct Traffic {
 /// So many sources.
 fn sources_of<R: Net<Listener = TcpListener, Stream = TcpStream>>(
     rt: &R,
-    stage: &Stage,
+    stage: &SceneRun,
     count: usize,
-) -> Result<Vec<Line>> {
+) -> Result<Vec<PeerConnection>> {
     let mut sources = Vec::new(stage.alloc);
     for _ in 0..count {
         let stream = TcpStream::connect(rt, stage.site.sources)?;
-        sources.push(Line::polled(stage.alloc, stream)?)?;
+        sources.push(PeerConnection::polled(stage.alloc, stream)?)?;
     }
     Ok(sources)
 }
 
 /// A source hears what it is told.
-fn hear(source: &mut Line, record: &mut Record) {
+fn hear(source: &mut PeerConnection, record: &mut Record) {
     match source.read() {
         Ok(Came::Bytes | Came::Nothing) => {}
         _ => record.fail("a source is closed"),
@@ -93,16 +93,16 @@ impl Traffic {
     /// So many sources, and the stage's servers in these moods, before any request.
     fn new<R: Net<Listener = TcpListener, Stream = TcpStream>>(
         rt: &R,
-        stage: &mut Stage,
+        stage: &mut SceneRun,
         count: usize,
         moods: [Mood; 3],
     ) -> Result<Traffic> {
         let [first, second, third] = moods;
         Ok(Traffic {
             sources: sources_of(rt, stage, count)?,
-            third: Post::new(stage.alloc, stage.servers.pop(), third),
-            second: Post::new(stage.alloc, stage.servers.pop(), second),
-            first: Post::new(stage.alloc, stage.servers.pop(), first),
+            third: PolledServer::new(stage.alloc, stage.servers.pop(), third),
+            second: PolledServer::new(stage.alloc, stage.servers.pop(), second),
+            first: PolledServer::new(stage.alloc, stage.servers.pop(), first),
             record: Record::new(stage.alloc),
             course: Course::Begins,
             both: false,
@@ -233,7 +233,7 @@ impl Traffic {
 
 /// Requests of one source, one behind the other: whether one is told soon, and whether one behind
 /// that is, and whether the standby was connected to.
-fn tell_alone<R: Clock>(rt: &R, traffic: &mut Traffic, told: &mut Told) -> Result<()> {
+fn tell_alone<R: Clock>(rt: &R, traffic: &mut Traffic, told: &mut Transcript) -> Result<()> {
     told.put("soon", &traffic.ask(rt)?)?;
     told.put("soon_again", &traffic.ask(rt)?)?;
     told.put("standby", &traffic.third.is_met)
@@ -244,7 +244,7 @@ fn tell_alone<R: Clock>(rt: &R, traffic: &mut Traffic, told: &mut Told) -> Resul
 fn tell_deaths<R: Net<Listener = TcpListener, Stream = TcpStream> + Clock>(
     rt: &R,
     traffic: &mut Traffic,
-    told: &mut Told,
+    told: &mut Transcript,
 ) -> Result<()> {
     traffic.send();
     traffic.send();
@@ -260,7 +260,7 @@ fn tell_deaths<R: Net<Listener = TcpListener, Stream = TcpStream> + Clock>(
 /// A source sends requests, one behind the other, beside servers in these moods.
 pub fn play_alone<R: Net<Listener = TcpListener, Stream = TcpStream> + Clock>(
     rt: &R,
-    stage: &mut Stage,
+    stage: &mut SceneRun,
     moods: [Mood; 3],
 ) -> Result<()> {
     let mut traffic = Traffic::new(rt, stage, 1, moods)?;
@@ -270,7 +270,7 @@ pub fn play_alone<R: Net<Listener = TcpListener, Stream = TcpStream> + Clock>(
 /// Requests are under way while the first primary dies, or both do, and come back.
 pub fn play_deaths<R: Net<Listener = TcpListener, Stream = TcpStream> + Clock>(
     rt: &R,
-    stage: &mut Stage,
+    stage: &mut SceneRun,
     both: bool,
 ) -> Result<()> {
     let mut traffic = Traffic::new(rt, stage, SOURCES, [Mood::Serves; 3])?;

@@ -3,10 +3,10 @@
 //! them, or a name comes that none of them has. The source is told of each once.
 
 use crate::frame::MESSAGE;
-use crate::heard::Said;
+use crate::run_events::Said;
 use crate::scene::{Play, SCENE, Scene};
-use crate::site::{Output, PLAIN};
 use crate::step::Step;
+use crate::test_relay::{Output, PLAIN};
 
 /// Eight Messages under the tag `a`, of the times 1 to 8, that ask to be acknowledged as `1` to
 /// `8`.

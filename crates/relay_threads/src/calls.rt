@@ -5,10 +5,10 @@ ghost use Rattle.fwd_session.specs.ServerAcks.{IsServerAck};
 
 use fwd_book::Receipt;
 use fwd_chunks::Carried;
-use fwd_core::{Counts, FlushKind, Origin};
+use fwd_model::{Counts, FlushKind, Origin};
 use fwd_modes::Batch;
+use fwd_output::{AdmitRefusal, Locked, Plain, SharedOutput, Ticket};
 use fwd_session::Acked;
-use fwd_workers::{AdmitRefusal, Locked, Plain, SharedOutput, Ticket};
 use std::alloc::{AllocError, Global};
 use std::sync::{Arc, Wait};
 

@@ -6,7 +6,7 @@ use crate::batches::output;
 use crate::memory::Open;
 use crate::turns::{Load, Post, admits, collected, works};
 use anyhow::Result;
-use fwd_workers::{Closing, Ledgered, Locked, Seat, SharedOutput, Tally, Ticket, open};
+use fwd_output::{Closing, Ledgered, Locked, Seat, SharedOutput, Tally, Ticket, open};
 use std::alloc::Global;
 use std::marker::Brand;
 use std::sync::Wait;

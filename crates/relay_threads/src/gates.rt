@@ -1,7 +1,8 @@
 //! Two workers at work at once: a gate lets neither settle alone.
 
 use crate::turns::{Post, works};
-use fwd_workers::{Gate, Pass, Place, Plain, SharedOutput};
+use fwd_output::{Plain, SharedOutput};
+use fwd_workers::{Gate, Pass, Place};
 use std::alloc::Global;
 use std::rt::Clock;
 use std::sync::Wait;

@@ -1,7 +1,7 @@
 //! A link in memory, whose server acknowledges each whole frame; and what else a worker asks for.
 
 ghost use Rattle.std.specs.Prelude.{◌≡◌, ◌≤◌, Ok, [], length};
-ghost use Rattle.fwd_workers.specs.Links.{count_read};
+ghost use Rattle.fwd_environment.specs.Links.{count_read};
 
 use fwd_msgpack::{Cut, Limits, cut};
 use fwd_workers::{Calls, Clock, Gate, Hub, Link, LinkFault, Pass, Place, Read};

@@ -1,8 +1,8 @@
 //! Links in memory to servers that act, and what makes such links.
 
 ghost use Rattle.std.specs.Prelude.{◌≡◌, ◌≤◌, [], length, IfOk, IfErr};
-ghost use Rattle.fwd_workers.specs.Links.{count_read};
-ghost use Rattle.fwd_workers.specs.declared.link.LinkFault.TheVariants as fault;
+ghost use Rattle.fwd_environment.specs.Links.{count_read};
+ghost use Rattle.fwd_environment.specs.declared.link.LinkFault.TheVariants as fault;
 
 use crate::acts::{Act, Came, Server};
 use crate::memory::give;

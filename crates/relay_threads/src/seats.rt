@@ -4,14 +4,13 @@
 ghost use Rattle.std.specs.Prelude.{◌≡◌, ◌+◌, ◌<◌, ◌≤◌, IfOk, vec_len};
 
 use crate::batches::{login, output, terms};
-use crate::hand::Hand;
 use crate::memory::{Open, Still, Wires};
+use crate::thread_share::Hand;
 use crate::turns::{Load, Post, abandon_all, admits, works};
 use anyhow::Result;
-use fwd_core::FlushKind;
-use fwd_workers::{
-    Closing, Gate, Ledgered, Locked, Pass, Place, Seat, SharedOutput, Tally, Worker, open,
-};
+use fwd_model::FlushKind;
+use fwd_output::{Closing, Ledgered, Locked, Seat, SharedOutput, Tally, open};
+use fwd_workers::{Gate, Pass, Place, Worker};
 use rand_chacha::ChaCha20Rng;
 use rand_core::SeedableRng;
 use std::alloc::{AllocError, Global};

@@ -9,11 +9,9 @@ use crate::record::Record;
 use crate::turns::{Load, abandon_all, admits};
 use crate::watched::{Ticking, news_text, place_name};
 use anyhow::Result;
-use fwd_core::FlushKind;
-use fwd_workers::{
-    Closing, Gate, Ledgered, LinkFault, Locked, LossReason, Pass, Place, SharedOutput, Tally,
-    Worker, WorkerEnd, WorkerEvent, open,
-};
+use fwd_model::FlushKind;
+use fwd_output::{Closing, Ledgered, Locked, SharedOutput, Tally, open};
+use fwd_workers::{Gate, LinkFault, LossReason, Pass, Place, Worker, WorkerEnd, WorkerEvent};
 use rand_chacha::ChaCha20Rng;
 use rand_core::SeedableRng;
 use std::alloc::{AllocError, Global};

@@ -4,8 +4,9 @@ ghost use Rattle.std.specs.Prelude.{◌≡◌, ◌≤◌};
 
 use crate::batches::{MESSAGE, batch, login, terms};
 use crate::memory::{Open, Still, Wires};
-use fwd_core::Origin;
-use fwd_workers::{Gate, SharedOutput, Tally, Ticket, Worker, WorkerEnd};
+use fwd_model::Origin;
+use fwd_output::{SharedOutput, Tally, Ticket};
+use fwd_workers::{Gate, Worker, WorkerEnd};
 use rand_chacha::ChaCha20Rng;
 use rand_core::SeedableRng;
 use std::alloc::Global;

@@ -17,14 +17,14 @@ pub more-requires-clause-few : goal.more-requires-clause-few
 more-requires-clause-few c =
     let d : Span = record { number = 0; from = 0; count = 0 } in
     let number : ℕ = (slice_index_or c.args.spans.now c.loop-span.span-index d).number in
-    let same = unchanged (λ o. Some (used_more o)) (λ n. note_at n c.args.numbers.now.notes) (λ n. note_at n c.loop-span.numbers.notes) c.args.spans.now c.loop-span.span-index d c.loop-span-test.true c.requires.rising c.loop-span.invariant.noted in
+    let same = unchanged (λ o. Some (used_more o)) (λ n. note_at n c.args.chunk_refs.now.notes) (λ n. note_at n c.loop-span.chunk_refs.notes) c.args.spans.now c.loop-span.span-index d c.loop-span-test.true c.requires.rising c.loop-span.invariant.noted in
     subst (λ o. uses_in o < 2 ^ 63) (sym same) (c.requires.few number)
 
 pub loop-span-preserved : goal.loop-span-preserved
 loop-span-preserved c =
     let d : Span = record { number = 0; from = 0; count = 0 } in
     record {
-      noted = stepped (λ o. Some (used_more o)) (λ n. note_at n c.args.numbers.now.notes) (λ n. note_at n c.loop-span.numbers.notes) (λ n. note_at n c.more.new.self.notes) c.args.spans.now c.loop-span.span-index d c.loop-span-test.true c.requires.rising c.loop-span.invariant.noted c.more.ensures.noted;
+      noted = stepped (λ o. Some (used_more o)) (λ n. note_at n c.args.chunk_refs.now.notes) (λ n. note_at n c.loop-span.chunk_refs.notes) (λ n. note_at n c.more.new.self.notes) c.args.spans.now c.loop-span.span-index d c.loop-span-test.true c.requires.rising c.loop-span.invariant.noted c.more.ensures.noted;
       room = let fits = c.loop-span.invariant.room in let left = c.more.ensures.room in omega (arith, fits, left);
     }
 
@@ -32,4 +32,4 @@ pub returns : goal.returns
 returns c = λ n.
     let all : take c.loop-span.span-index c.args.spans.now ≡ c.args.spans.now = take_all c.loop-span.span-index c.args.spans.now c.loop-span-test.false in
     c.loop-span.invariant.noted n
-    ∙ ap (λ ss. cond (list_any (λ s. s.number == n) ss) (Some (used_more (note_at n c.args.numbers.now.notes))) (note_at n c.args.numbers.now.notes)) all
+    ∙ ap (λ ss. cond (list_any (λ s. s.number == n) ss) (Some (used_more (note_at n c.args.chunk_refs.now.notes))) (note_at n c.args.chunk_refs.now.notes)) all

@@ -7,8 +7,10 @@ use Rattle.fwd_script.specs.Statuses.{refused_status}
 use Rattle.fwd_script.specs.Writes.{AppendsFront}
 use Rattle.fwd_script.specs.declared.status.Status.TheVariants.{Done, Output}
 use Rattle.fwd_script.proofs.Results.{match_err}
-use Rattle.fwd_program.specs.Ends.{Found, Runs, ended_by}
-use Rattle.fwd_program.specs.declared.ending.RunEnd.TheVariants.{Ran}
+use Rattle.fwd_journal.specs.RunEnds.{ended_by}
+use Rattle.fwd_journal.specs.declared.ending.RunEnd.TheVariants.{Ran}
+use Rattle.fwd_check.specs.Found.{Found}
+use Rattle.fwd_program.specs.Ends.{Runs}
 use Rattle.fwd_program.proofs.Unwritten.{good_text, refused_runs, start_runs}
 use Rattle.fwd_program.proofs.running.run_found.Goals as goal
 
@@ -39,7 +41,7 @@ returns-in_err-write_all-clause-runs g c text from =
     let settings = c.in_ok-settings.settings in
     let good = good_text settings text (subst (λ f. Found f text) c.in_ok-settings.was from) in
     let reports = c.in_ok-outcome.outcome.reports.items in
-    let count = c.in_ok-outcome.ensures.count ∙ ap length c.in_ok-relay.ensures ∙ length-map settings.outputs shown_by in
+    let count = c.in_ok-outcome.ensures.count ∙ ap (λ relay. length relay.outputs) c.in_ok-relay.ensures ∙ length-map settings.outputs shown_by in
     let page : c.as_bytes.result.now ≡ page_of reports = c.as_bytes.ensures.value ∙ c.in_ok-text.ensures ∙ ap page_of c.deref.ensures.value in
     let old = g.W.Write.contents c.args.output.now in
     let new = g.W.Write.contents c.write_all.new.writer in
@@ -52,7 +54,7 @@ returns-clause-runs g c text from =
     let settings = c.in_ok-settings.settings in
     let good = good_text settings text (subst (λ f. Found f text) c.in_ok-settings.was from) in
     let reports = c.in_ok-outcome.outcome.reports.items in
-    let count = c.in_ok-outcome.ensures.count ∙ ap length c.in_ok-relay.ensures ∙ length-map settings.outputs shown_by in
+    let count = c.in_ok-outcome.ensures.count ∙ ap (λ relay. length relay.outputs) c.in_ok-relay.ensures ∙ length-map settings.outputs shown_by in
     let page : c.as_bytes.result.now ≡ page_of reports = c.as_bytes.ensures.value ∙ c.in_ok-text.ensures ∙ ap page_of c.deref.ensures.value in
     let wrote = subst (Appends (g.W.Write.contents c.args.output.now) (g.W.Write.contents c.write_all.new.writer)) page c.in_ok-write_all.ensures.all in
     (settings, good, reports, (count, c.in_ok-outcome.ensures.add_up), wrote)

@@ -2,7 +2,7 @@ use Rattle.std.proofs.Common.{◌≡◌, ◌⊎◌, inl, inr, ap, ◌∙◌}
 use Rattle.fwd_script.specs.Stops.{Stops}
 use Rattle.fwd_script.specs.Replay.{answer_line}
 use Rattle.fwd_script.specs.Writes.{AppendsFront}
-use Rattle.fwd_script.specs.declared.stepping.Stop.TheVariants as stops
+use Rattle.fwd_script.specs.declared.stepping.StopReason.TheVariants as stops
 use Rattle.fwd_script.proofs.Results.{match_err, Keeps-same}
 use Rattle.fwd_script.proofs.stepping.answer_event.Goals as goal
 

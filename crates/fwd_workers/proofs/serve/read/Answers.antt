@@ -1,6 +1,6 @@
 use Rattle.std.proofs.Common.{refl, ap, subst, arith, length, Ok, Err, ◌∷◌, [], ◌++◌, ◌≤◌, ◌∙◌}
-use Rattle.fwd_workers.specs.declared.link.Read.TheVariants as read
-use Rattle.fwd_workers.specs.Links.{read_into, count_read}
+use Rattle.fwd_environment.specs.declared.link.Read.TheVariants as read
+use Rattle.fwd_environment.specs.Links.{read_into, count_read}
 use Rattle.fwd_workers.proofs.serve.read.Goals as goal
 
 pub returns-in-Ok-Bytes-clause-read : goal.returns-in-Ok-Bytes-clause-read

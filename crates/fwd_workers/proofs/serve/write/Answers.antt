@@ -1,6 +1,6 @@
 use Rattle.std.proofs.Common.{List}
-use Rattle.fwd_workers.specs.Links.{Call}
-use Rattle.fwd_workers.proofs.Serving.{offers-all, offers-front}
+use Rattle.fwd_environment.specs.Links.{Call}
+use Rattle.fwd_environment.proofs.Offering.{offers-all, offers-front}
 use Rattle.fwd_workers.proofs.serve.write.Goals as goal
 
 pub returns-in-Piece : goal.returns-in-Piece

@@ -1,5 +1,5 @@
 use Rattle.std.specs.List.{concat}
-use Rattle.fwd_workers.proofs.Serving.{offers-front}
+use Rattle.fwd_environment.proofs.Offering.{offers-front}
 use Rattle.fwd_workers.proofs.serve.write_pieces.Goals as goal
 
 pub returns-then-has_large : goal.returns-then-has_large

@@ -2,7 +2,7 @@ use Rattle.std.proofs.Common.{◌≡◌, Bool, false, Ok, Result, List, ap, sym,
 use Rattle.std.specs.Prelude.{is_some, option_map}
 use Rattle.fwd_session.specs.Live.{LiveSession}
 use Rattle.fwd_workers.specs.declared.ending.EndReason.TheVariants as ending
-use Rattle.fwd_workers.specs.Links.{Call}
+use Rattle.fwd_environment.specs.Links.{Call}
 use Rattle.fwd_workers.specs.Served.{IsOfLink, seen_in}
 use Rattle.fwd_workers.proofs.Keeping.{looks-setup, same-window}
 use Rattle.fwd_workers.proofs.Leading.{late-upstream, served-upstream, served-tended, up-upstream}

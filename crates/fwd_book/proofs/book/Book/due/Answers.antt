@@ -8,7 +8,7 @@ use Rattle.fwd_book.proofs.book.Book.due.Goals as goal
 
 pub returns-clause-due : goal.returns-clause-due
 returns-clause-due c =
-    let notes : List (ℕ × ChunkRef) = c.self.inside.numbers.notes in
+    let notes : List (ℕ × ChunkRef) = c.self.inside.chunk_refs.notes in
     let qs : List Entered = c.self.inside.requests.items in
     let found : map (λ q. q.origin) (filter (λ q. is_of c.args.conn q && are_found notes q) qs) ≡ map (λ q. q.origin) (live_due c.args.self.now.live c.args.conn) =
     (λ i. map (λ (q : Entered). q.origin) (filter (λ q. is_of c.args.conn q && settled-alike notes qs q c.self.invariant.0 i) qs))
@@ -17,7 +17,7 @@ returns-clause-due c =
 
 pub returns-clause-none : goal.returns-clause-none
 returns-clause-none c = λ none.
-    let notes : List (ℕ × ChunkRef) = c.self.inside.numbers.notes in
+    let notes : List (ℕ × ChunkRef) = c.self.inside.chunk_refs.notes in
     let qs : List Entered = c.self.inside.requests.items in
     c.due.ensures.none
     ((λ i. filter (λ q. is_of c.args.conn q && settled-alike notes qs q c.self.invariant.0 i) qs)

@@ -16,21 +16,21 @@ use_all-requires-clause-room c =
     let ready : c.self.inside.ready ≡ Some c.in-Some.request = sym c.take.ensures.value ∙ c.in-Some.is in
     let now : c.args.self.now.ready ≡ Some c.in-Some.request = ap (λ (s : BookState). s.ready) (sym c.self.view_is) ∙ ready in
     let cut : AreCutBy c.args.spans c.in-Some.request.entries = subst (λ o. IfSome o (λ r. AreCutBy c.args.spans r.entries)) now c.requires.cut in
-    let room : length c.in-Some.request.entries ≤ c.self.inside.numbers.room = (subst (λ o. HasRoom o c.self.inside.requests.room c.self.inside.numbers.room) ready c.self.invariant.2).1 in
+    let room : length c.in-Some.request.entries ≤ c.self.inside.chunk_refs.room = (subst (λ o. HasRoom o c.self.inside.requests.room c.self.inside.chunk_refs.room) ready c.self.invariant.2).1 in
     let few : length c.args.spans ≤ length c.in-Some.request.entries = cut-few c.args.spans c.in-Some.request.entries cut in
     let same : length c.as_slice.result.now ≡ length c.args.spans = ap length c.as_slice.ensures in
     omega (arith, room, few, same)
 
 pub use_all-requires-clause-few : goal.use_all-requires-clause-few
 use_all-requires-clause-few c = λ n.
-    let uses : uses_in (note_at n c.self.inside.numbers.notes) ≡ length (filter (has_run n) c.self.inside.requests.items) = c.self.invariant.0.uses n in
+    let uses : uses_in (note_at n c.self.inside.chunk_refs.notes) ≡ length (filter (has_run n) c.self.inside.requests.items) = c.self.invariant.0.uses n in
     let few : length (filter (has_run n) c.self.inside.requests.items) ≤ length c.self.inside.requests.items = filter-few (has_run n) c.self.inside.requests.items in
     omega (arith, uses, few, c.are_few.ensures)
 
 pub invariant_of-self : goal.invariant_of-self
 invariant_of-self c =
-    let notes : List (ℕ × ChunkRef) = c.self.inside.numbers.notes in
-    let new : List (ℕ × ChunkRef) = c.use_all.new.numbers.notes in
+    let notes : List (ℕ × ChunkRef) = c.self.inside.chunk_refs.notes in
+    let new : List (ℕ × ChunkRef) = c.use_all.new.chunk_refs.notes in
     let qs : List Entered = c.self.inside.requests.items in
     let spans : List Span = c.args.spans in
     let setting : BookSetting = record { run = c.self.inside.run; output = c.self.inside.output } in
@@ -49,13 +49,13 @@ invariant_of-self c =
     let whole : live_of setting c.push.new.self.items new ≡ live_enters (live_of setting qs notes) q = (λ i. record { setting = setting; requests = items i; settled = (ap (found_for (found_at new)) items ∙ shown) i }) in (
       subst (λ xs. AreOf new xs) (sym items) of,
       subst IsSound (sym whole) sound,
-      subst (λ o. HasRoom o c.push.new.self.room c.use_all.new.numbers.room) (sym c.take.ensures.after) tt,
+      subst (λ o. HasRoom o c.push.new.self.room c.use_all.new.chunk_refs.room) (sym c.take.ensures.after) tt,
     )
 
 pub returns : goal.returns
 returns c =
-    let notes : List (ℕ × ChunkRef) = c.self.inside.numbers.notes in
-    let new : List (ℕ × ChunkRef) = c.use_all.new.numbers.notes in
+    let notes : List (ℕ × ChunkRef) = c.self.inside.chunk_refs.notes in
+    let new : List (ℕ × ChunkRef) = c.use_all.new.chunk_refs.notes in
     let qs : List Entered = c.self.inside.requests.items in
     let spans : List Span = c.args.spans in
     let setting : BookSetting = record { run = c.self.inside.run; output = c.self.inside.output } in

@@ -7,7 +7,7 @@ use Rattle.fwd_book.specs.History.{request_at}
 use Rattle.fwd_book.specs.Live.{LiveBook, BookState, live_left, live_leaves, live_owed}
 use Rattle.fwd_book.proofs.Keeping.{leaves-none, leaves-then, owed-none, owed-then}
 use Rattle.fwd_book.proofs.book.Book.forget.Goals as goal
-use Rattle.fwd_book.proofs.book.Book.forget.Goals.{then-leave, else-leave}
+use Rattle.fwd_book.proofs.book.Book.forget.Goals.{then-leave_at, else-leave_at}
 
 pub loop-origin-init : goal.loop-origin-init
 loop-origin-init c = record {
@@ -32,21 +32,21 @@ loop-origin-preserved c =
     let one_more : at + 1 ≡ suc at = omega arith in
     let next : take (at + 1) c.args.origins.now ≡ done ++ o ∷ [] = ap (λ k. take k c.args.origins.now) one_more ∙ take-suc c.args.origins.now at d c.loop-origin-test.true in
     let owing : live_owed b (take (at + 1) c.args.origins.now) ≡ live_owed b done + (if is_some (request_at (live_left b done) o) then 1 else 0) = ap (live_owed b) next ∙ owed-then b.requests done o c.is_sound.ensures.sound.apart in
-    let held : c.leave.result ≡ is_some (request_at (live_left b done) o) = c.leave.ensures.held ∙ ap (λ (s : BookState). is_some (request_at s.live.requests o)) c.loop-origin.invariant.left in
+    let held : c.leave_at.result ≡ is_some (request_at (live_left b done) o) = c.leave_at.ensures.held ∙ ap (λ (s : BookState). is_some (request_at s.live.requests o)) c.loop-origin.invariant.left in
     let before : c.loop-origin.count ≡ live_owed b done = c.loop-origin.invariant.count in
     let few : c.loop-origin.count ≤ at = c.loop-origin.invariant.few in
     record {
       left =
-          c.leave.ensures.left
+          c.leave_at.ensures.left
           ∙ ap (λ (s : BookState). record { live = live_leaves s.live (o ∷ []); ready = s.ready }) c.loop-origin.invariant.left
           ∙ (λ i. record { live = (leaves-then b done o ∙ ap (live_leaves b) (sym next)) i; ready = c.args.self.now.ready });
-      count = elim c.if-leave.branch [
-        | then-leave w ↦ w.count-is ∙ ap (λ k. k + 1) before ∙ ap (λ a. live_owed b done + (if a then 1 else 0)) (sym w.if-leave.true ∙ held) ∙ sym owing
-        | else-leave w ↦ w.count-is ∙ before ∙ plain (live_owed b done) ∙ ap (λ a. live_owed b done + (if a then 1 else 0)) (sym w.if-leave.false ∙ held) ∙ sym owing
+      count = elim c.if-leave_at.branch [
+        | then-leave_at w ↦ w.count-is ∙ ap (λ k. k + 1) before ∙ ap (λ a. live_owed b done + (if a then 1 else 0)) (sym w.if-leave_at.true ∙ held) ∙ sym owing
+        | else-leave_at w ↦ w.count-is ∙ before ∙ plain (live_owed b done) ∙ ap (λ a. live_owed b done + (if a then 1 else 0)) (sym w.if-leave_at.false ∙ held) ∙ sym owing
       ];
-      few = elim c.if-leave.branch [
-        | then-leave w ↦ let is = w.count-is in omega (arith, is, few)
-        | else-leave w ↦ let is = w.count-is in omega (arith, is, few)
+      few = elim c.if-leave_at.branch [
+        | then-leave_at w ↦ let is = w.count-is in omega (arith, is, few)
+        | else-leave_at w ↦ let is = w.count-is in omega (arith, is, few)
       ];
     }
 

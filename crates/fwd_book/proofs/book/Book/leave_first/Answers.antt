@@ -20,8 +20,8 @@ leave_all-requires c =
 
 pub invariant_of-self-2 : goal.invariant_of-self-2
 invariant_of-self-2 c =
-    let notes : List (ℕ × ChunkRef) = c.self.inside.numbers.notes in
-    let new : List (ℕ × ChunkRef) = c.leave_all.new.numbers.notes in
+    let notes : List (ℕ × ChunkRef) = c.self.inside.chunk_refs.notes in
+    let new : List (ℕ × ChunkRef) = c.leave_all.new.chunk_refs.notes in
     let qs : List Entered = c.self.inside.requests.items in
     let q : Entered = c.in_ok-kept.kept in
     let o : Origin = q.origin in
@@ -42,8 +42,8 @@ invariant_of-self-2 c =
 
 pub returns-clause-left : goal.returns-clause-left
 returns-clause-left c =
-    let notes : List (ℕ × ChunkRef) = c.self.inside.numbers.notes in
-    let new : List (ℕ × ChunkRef) = c.leave_all.new.numbers.notes in
+    let notes : List (ℕ × ChunkRef) = c.self.inside.chunk_refs.notes in
+    let new : List (ℕ × ChunkRef) = c.leave_all.new.chunk_refs.notes in
     let qs : List Entered = c.self.inside.requests.items in
     let q : Entered = c.in_ok-kept.kept in
     let o : Origin = q.origin in

@@ -13,7 +13,7 @@ use Rattle.fwd_book.proofs.book.Book.settle.Goals as goal
 pub invariant_of-self : goal.invariant_of-self
 invariant_of-self c =
     let e : ServerAck = arc_value c.args.acked in
-    let notes : List (ℕ × ChunkRef) = c.self.inside.numbers.notes in
+    let notes : List (ℕ × ChunkRef) = c.self.inside.chunk_refs.notes in
     let new : List (ℕ × ChunkRef) = c.put.new.self.notes in
     let qs : List Entered = c.self.inside.requests.items in
     let setting : BookSetting = record { run = c.self.inside.run; output = c.self.inside.output } in
@@ -33,7 +33,7 @@ returns-clause-count c = c.count-count.ensures ∙ ap (λ (x : ServerAck). lengt
 pub returns-clause-settled : goal.returns-clause-settled
 returns-clause-settled c =
     let e : ServerAck = arc_value c.args.acked in
-    let notes : List (ℕ × ChunkRef) = c.self.inside.numbers.notes in
+    let notes : List (ℕ × ChunkRef) = c.self.inside.chunk_refs.notes in
     let new : List (ℕ × ChunkRef) = c.put.new.self.notes in
     let qs : List Entered = c.self.inside.requests.items in
     let setting : BookSetting = record { run = c.self.inside.run; output = c.self.inside.output } in

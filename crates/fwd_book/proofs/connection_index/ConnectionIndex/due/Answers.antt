@@ -5,7 +5,7 @@ use Rattle.std.proofs.lemmas.List.{take_all, append-nil}
 use Rattle.std.proofs.lemmas.Grind.{flat_map-append}
 use Rattle.slab.specs.Slab.{get}
 use Rattle.fwd_modes.specs.declared.origin.Origin.{Origin}
-use Rattle.fwd_book.specs.declared.connection_index.Kept.{Kept}
+use Rattle.fwd_book.specs.declared.connection_index.LinkedRequest.{LinkedRequest}
 use Rattle.fwd_book.specs.History.{Entered}
 use Rattle.fwd_book.specs.ChunkRefs.{found_at, are_found}
 use Rattle.fwd_book.specs.Slots.{held_at, request_of}
@@ -20,13 +20,13 @@ pub returns-in_err-push-clause-none : goal.returns-in_err-push-clause-none
 returns-in_err-push-clause-none c = λ order chained none.
     let rs : List ℕ = order c.args.conn in
     let held : ℕ → Option Entered = held_at c.args.self.now.kept in
-    let test : Entered → Bool = are_found c.args.numbers.now.notes in
+    let test : Entered → Bool = are_found c.args.chunk_refs.now.notes in
     let f : ℕ → List Origin = passing_at test held in
     let so_far = c.loop.invariant order chained in
     let at : slice_get rs c.loop.counter ≡ Some c.in-Some.slot = sym so_far.1 ∙ c.in-Some.is in
-    let k : Kept = c.in-Some-get.kept.now in
+    let k : LinkedRequest = c.in-Some-get.kept.now in
     let there : get c.args.self.now.kept c.in-Some.slot ≡ Some k = sym c.in-Some-get.ensures in
-    let passes : c.has_all.result ≡ test k.request = c.has_all.ensures ∙ ap (list_all (λ s. is_some (found_at c.args.numbers.now.notes s.number))) c.spans.ensures in
+    let passes : c.has_all.result ≡ test k.request = c.has_all.ensures ∙ ap (list_all (λ s. is_some (found_at c.args.chunk_refs.now.notes s.number))) c.spans.ensures in
     let own : f c.in-Some.slot ≡ map (λ q. q.origin) (cond c.has_all.result (k.request ∷ []) []) =
     ap (λ x. map (λ q. q.origin) (filter test (option_to_list (request_of x)))) there ∙ ap (λ b. map (λ q. q.origin) (cond b (k.request ∷ []) [])) (sym passes) in
     absurd (some-given f rs c.loop.counter c.in-Some.slot k.request.origin at (own ∙ ap (λ b. map (λ q. q.origin) (cond b (k.request ∷ []) [])) c.if-has_all.true) none)
@@ -35,13 +35,13 @@ pub loop-preserved : goal.loop-preserved
 loop-preserved c = λ order chained.
     let rs : List ℕ = order c.args.conn in
     let held : ℕ → Option Entered = held_at c.args.self.now.kept in
-    let test : Entered → Bool = are_found c.args.numbers.now.notes in
+    let test : Entered → Bool = are_found c.args.chunk_refs.now.notes in
     let f : ℕ → List Origin = passing_at test held in
     let so_far = c.loop.invariant order chained in
     let at : slice_get rs c.loop.counter ≡ Some c.in-Some.slot = sym so_far.1 ∙ c.in-Some.is in
-    let k : Kept = c.in-Some-get.kept.now in
+    let k : LinkedRequest = c.in-Some-get.kept.now in
     let there : get c.args.self.now.kept c.in-Some.slot ≡ Some k = sym c.in-Some-get.ensures in
-    let passes : c.has_all.result ≡ test k.request = c.has_all.ensures ∙ ap (list_all (λ s. is_some (found_at c.args.numbers.now.notes s.number))) c.spans.ensures in
+    let passes : c.has_all.result ≡ test k.request = c.has_all.ensures ∙ ap (list_all (λ s. is_some (found_at c.args.chunk_refs.now.notes s.number))) c.spans.ensures in
     let own : f c.in-Some.slot ≡ map (λ q. q.origin) (cond c.has_all.result (k.request ∷ []) []) =
     ap (λ x. map (λ q. q.origin) (filter test (option_to_list (request_of x)))) there ∙ ap (λ b. map (λ q. q.origin) (cond b (k.request ∷ []) [])) (sym passes) in
     let next : c.loop.counter + 1 ≡ suc c.loop.counter = omega arith in
@@ -67,7 +67,7 @@ loop-preserved c = λ order chained.
 pub returns-clause-due : goal.returns-clause-due
 returns-clause-due c = λ order chained few.
     let rs : List ℕ = order c.args.conn in
-    let f : ℕ → List Origin = passing_at (are_found c.args.numbers.now.notes) (held_at c.args.self.now.kept) in
+    let f : ℕ → List Origin = passing_at (are_found c.args.chunk_refs.now.notes) (held_at c.args.self.now.kept) in
     let so_far = c.loop.invariant order chained in
     so_far.0 ∙ ap (flat_map f) (elim c.loop-test.branch [
       | else-loop-test w ↦ take_all c.loop.counter rs (omega (arith, few, w.loop-test.false))

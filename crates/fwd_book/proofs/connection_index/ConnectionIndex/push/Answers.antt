@@ -2,7 +2,7 @@ use Rattle.std.proofs.Common.{◌≡◌, ℕ, Some, None, cond, refl, sym, ap, �
 use Rattle.std.specs.Prelude.{◌==◌, option_map}
 use Rattle.std.proofs.lemmas.Bool.{eq-eqb}
 use Rattle.slab.specs.Slab.{get}
-use Rattle.fwd_book.specs.declared.connection_index.Kept.{Kept}
+use Rattle.fwd_book.specs.declared.connection_index.LinkedRequest.{LinkedRequest}
 use Rattle.fwd_book.specs.Links.{ends_at, is_the, leads_to, with_last}
 use Rattle.fwd_book.proofs.Chaining.{kept_with}
 use Rattle.fwd_book.proofs.Seats.{updated}
@@ -11,7 +11,7 @@ use Rattle.fwd_book.proofs.connection_index.ConnectionIndex.push.Goals as goal
 pub returns-clause-chained : goal.returns-clause-chained
 returns-clause-chained c = λ order chained fresh.
     let slot : ℕ = c.insert_reserved.result in
-    let own : Kept = record { request = c.args.request; link = record { earlier = c.put_last-earlier.result; later = None } } in
+    let own : LinkedRequest = record { request = c.args.request; link = record { earlier = c.put_last-earlier.result; later = None } } in
     let conn : ℕ = c.args.request.origin.conn in
     let at : c.vacant_key-slot.result ≡ slot = c.vacant_key-slot.ensures.value ∙ sym c.set_later.ensures.next ∙ sym c.insert_reserved.ensures.key in
     let empty : get c.args.self.now.kept slot ≡ None = ap (get c.args.self.now.kept) (sym at) ∙ c.vacant_key-slot.ensures.vacant in

@@ -2,7 +2,7 @@ use Rattle.std.proofs.Common.{◌≡◌, ℕ, Some, None, cond, sym, ap, subst, 
 use Rattle.std.specs.Prelude.{IsSome, ◌==◌, ◌&&◌, not, is_some, option_map}
 use Rattle.slab.specs.Slab.{Slab, get}
 use Rattle.fwd_modes.specs.declared.origin.Origin.{Origin}
-use Rattle.fwd_book.specs.declared.connection_index.Kept.{Kept}
+use Rattle.fwd_book.specs.declared.connection_index.LinkedRequest.{LinkedRequest}
 use Rattle.fwd_book.specs.Slots.{request_of}
 use Rattle.fwd_book.specs.Links.{ends_at, is_the, link_of, link_at, leads_to, follows_on, order_without, AreChained}
 use Rattle.fwd_book.proofs.Chaining.{chained_same, kept_without, kept_ends}
@@ -11,7 +11,7 @@ use Rattle.fwd_book.proofs.connection_index.ConnectionIndex.remove.Goals as goal
 
 pub returns-in_err-request-clause-chained : goal.returns-in_err-request-clause-chained
 returns-in_err-request-clause-chained c = λ order chained.
-    subst (λ (kept : Slab Kept). AreChained (link_at kept) c.args.self.now.ends.entries (order_without c.args.slot order)) (sym c.in_err-request.ensures.absent)
+    subst (λ (kept : Slab LinkedRequest). AreChained (link_at kept) c.args.self.now.ends.entries (order_without c.args.slot order)) (sym c.in_err-request.ensures.absent)
     (chained_same (link_at c.args.self.now.kept) c.args.self.now.ends.entries order c.args.slot (λ d. ap (link_of d) (sym c.in_err-request.ensures.value)) chained)
 
 pub returns-clause-held : goal.returns-clause-held
@@ -26,7 +26,7 @@ returns-clause-held c = λ k.
 
 pub returns-clause-chained : goal.returns-clause-chained
 returns-clause-chained c = λ order chained.
-    let own : Kept = c.in_ok-request.field-0 in
+    let own : LinkedRequest = c.in_ok-request.field-0 in
     let there : get c.args.self.now.kept c.args.slot ≡ Some own = sym c.in_ok-request.ensures.value in
     let ends : IsSome (ends_at c.args.self.now.ends.entries c.origin.result.conn) =
     subst (λ (o : Origin). IsSome (ends_at c.args.self.now.ends.entries o.conn)) (sym c.origin.ensures) (kept_ends (get c.args.self.now.kept) (get c.set_earlier.new.kept) c.args.self.now.ends.entries c.leave_ends.new.ends.entries order chained c.args.slot own there) in

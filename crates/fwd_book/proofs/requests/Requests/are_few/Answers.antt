@@ -6,7 +6,7 @@ use Rattle.fwd_book.proofs.requests.Requests.are_few.Goals as goal
 
 pub returns : goal.returns
 returns c =
-    let held : ℕ → Option Entered = held_at c.self.inside.chains.kept in
+    let held : ℕ → Option Entered = held_at c.self.inside.by_connection.kept in
     let index : List Lead = c.self.inside.index.entries in
     let few : length (present (slots_by held index)) ≤ length index = few-led held index in
     let same : length (present (slots_by held index)) ≡ length c.args.self.now.items = ap (λ (h : Held). length h.items) c.self.view_is in

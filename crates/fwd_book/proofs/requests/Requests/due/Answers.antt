@@ -12,9 +12,9 @@ use Rattle.fwd_book.proofs.requests.Requests.due.Goals as goal
 
 pub returns-clause-due : goal.returns-clause-due
 returns-clause-due c =
-    let held : ℕ → Option Entered = held_at c.self.inside.chains.kept in
+    let held : ℕ → Option Entered = held_at c.self.inside.by_connection.kept in
     let index : List Lead = c.self.inside.index.entries in
-    let test : Entered → Bool = are_found c.args.numbers.now.notes in
+    let test : Entered → Bool = are_found c.args.chunk_refs.now.notes in
     let found : flat_map (passing_at test held) (order_by held index c.args.conn) ≡ map (λ q. q.origin) (filter (λ q. is_of c.args.conn q && test q) c.args.self.now.items) =
     order-passing test held index c.args.conn ∙ ap (λ (h : Held). map (λ q. q.origin) (filter (λ q. is_of c.args.conn q && test q) h.items)) c.self.view_is in
     let own : length (order_by held index c.args.conn) ≤ length index = order-few held index c.args.conn in
@@ -23,9 +23,9 @@ returns-clause-due c =
 
 pub returns-clause-none : goal.returns-clause-none
 returns-clause-none c = λ none.
-    let held : ℕ → Option Entered = held_at c.self.inside.chains.kept in
+    let held : ℕ → Option Entered = held_at c.self.inside.by_connection.kept in
     let index : List Lead = c.self.inside.index.entries in
-    let test : Entered → Bool = are_found c.args.numbers.now.notes in
+    let test : Entered → Bool = are_found c.args.chunk_refs.now.notes in
     let found : flat_map (passing_at test held) (order_by held index c.args.conn) ≡ map (λ q. q.origin) (filter (λ q. is_of c.args.conn q && test q) c.args.self.now.items) =
     order-passing test held index c.args.conn ∙ ap (λ (h : Held). map (λ q. q.origin) (filter (λ q. is_of c.args.conn q && test q) h.items)) c.self.view_is in
     c.due.ensures.none (order_by held index) c.self.invariant.1 (found ∙ ap (map (λ q. q.origin)) none)

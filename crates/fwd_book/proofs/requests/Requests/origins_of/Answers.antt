@@ -10,7 +10,7 @@ use Rattle.fwd_book.proofs.requests.Requests.origins_of.Goals as goal
 
 pub returns : goal.returns
 returns c =
-    let held : ℕ → Option Entered = held_at c.self.inside.chains.kept in
+    let held : ℕ → Option Entered = held_at c.self.inside.by_connection.kept in
     let index : List Lead = c.self.inside.index.entries in
     let own : length (order_by held index c.args.conn) ≤ length index = order-few held index c.args.conn in
     let found : flat_map (λ k. option_to_list (origin_at held k)) (order_by held index c.args.conn) ≡ map (λ q. q.origin) (filter (is_of c.args.conn) c.args.self.now.items) =

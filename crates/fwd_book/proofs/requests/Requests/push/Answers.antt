@@ -10,7 +10,7 @@ use Rattle.fwd_book.proofs.requests.Requests.push.Goals as goal
 
 pub invariant_of-self : goal.invariant_of-self
 invariant_of-self c =
-    let held : ℕ → Option Entered = held_at c.self.inside.chains.kept in
+    let held : ℕ → Option Entered = held_at c.self.inside.by_connection.kept in
     let index : List Lead = c.self.inside.index.entries in
     let q : Entered = c.args.kept in
     let o : Origin = c.origin-origin.result in
@@ -30,7 +30,7 @@ invariant_of-self c =
 
 pub returns : goal.returns
 returns c =
-    let held : ℕ → Option Entered = held_at c.self.inside.chains.kept in
+    let held : ℕ → Option Entered = held_at c.self.inside.by_connection.kept in
     let index : List Lead = c.self.inside.index.entries in
     let q : Entered = c.args.kept in
     let o : Origin = c.origin-origin.result in

@@ -10,7 +10,7 @@ use Rattle.fwd_book.proofs.requests.Requests.take.Goals as goal
 
 pub returns-in_err-slot-clause-taken : goal.returns-in_err-slot-clause-taken
 returns-in_err-slot-clause-taken c =
-    let held : ℕ → Option Entered = held_at c.self.inside.chains.kept in
+    let held : ℕ → Option Entered = held_at c.self.inside.by_connection.kept in
     let index : List Lead = c.self.inside.index.entries in
     let o : Origin = c.args.origin in
     c.from_residual.ensures ∙ ap (at_key held (key_of o)) c.in_err-slot.ensures.value
@@ -18,7 +18,7 @@ returns-in_err-slot-clause-taken c =
 
 pub returns-in_err-slot-clause-left : goal.returns-in_err-slot-clause-left
 returns-in_err-slot-clause-left c =
-    let held : ℕ → Option Entered = held_at c.self.inside.chains.kept in
+    let held : ℕ → Option Entered = held_at c.self.inside.by_connection.kept in
     let index : List Lead = c.self.inside.index.entries in
     let o : Origin = c.args.origin in
     let none : request_at c.args.self.now.items o ≡ None =
@@ -27,7 +27,7 @@ returns-in_err-slot-clause-left c =
 
 pub returns-in_err-get-clause-taken : goal.returns-in_err-get-clause-taken
 returns-in_err-get-clause-taken c =
-    let held : ℕ → Option Entered = held_at c.self.inside.chains.kept in
+    let held : ℕ → Option Entered = held_at c.self.inside.by_connection.kept in
     let index : List Lead = c.self.inside.index.entries in
     let o : Origin = c.args.origin in
     let slot : ℕ = c.in_ok-slot.field-0.now in
@@ -37,7 +37,7 @@ returns-in_err-get-clause-taken c =
 
 pub returns-in_err-get-clause-left : goal.returns-in_err-get-clause-left
 returns-in_err-get-clause-left c =
-    let held : ℕ → Option Entered = held_at c.self.inside.chains.kept in
+    let held : ℕ → Option Entered = held_at c.self.inside.by_connection.kept in
     let index : List Lead = c.self.inside.index.entries in
     let o : Origin = c.args.origin in
     let slot : ℕ = c.in_ok-slot.field-0.now in
@@ -48,7 +48,7 @@ returns-in_err-get-clause-left c =
 
 pub invariant_of-self : goal.invariant_of-self
 invariant_of-self c =
-    let held : ℕ → Option Entered = held_at c.self.inside.chains.kept in
+    let held : ℕ → Option Entered = held_at c.self.inside.by_connection.kept in
     let index : List Lead = c.self.inside.index.entries in
     let slot : ℕ = c.in_ok-slot.field-0.now in (
       c.self.invariant.0,
@@ -58,7 +58,7 @@ invariant_of-self c =
 
 pub returns-clause-taken : goal.returns-clause-taken
 returns-clause-taken c =
-    let held : ℕ → Option Entered = held_at c.self.inside.chains.kept in
+    let held : ℕ → Option Entered = held_at c.self.inside.by_connection.kept in
     let index : List Lead = c.self.inside.index.entries in
     let o : Origin = c.args.origin in
     let slot : ℕ = c.in_ok-slot.field-0.now in
@@ -70,7 +70,7 @@ returns-clause-taken c =
 
 pub returns-clause-left : goal.returns-clause-left
 returns-clause-left c =
-    let held : ℕ → Option Entered = held_at c.self.inside.chains.kept in
+    let held : ℕ → Option Entered = held_at c.self.inside.by_connection.kept in
     let index : List Lead = c.self.inside.index.entries in
     let o : Origin = c.args.origin in
     let slot : ℕ = c.in_ok-slot.field-0.now in

@@ -8,7 +8,7 @@ use Rattle.fwd_book.proofs.requests.Requests.take_first.Goals as goal
 
 pub returns-in_err-slot-clause-taken : goal.returns-in_err-slot-clause-taken
 returns-in_err-slot-clause-taken c =
-    let held : ℕ → Option Entered = held_at c.self.inside.chains.kept in
+    let held : ℕ → Option Entered = held_at c.self.inside.by_connection.kept in
     let index : List Lead = c.self.inside.index.entries in
     c.from_residual.ensures
     ∙ ap (option_and_then held) (c.in_err-slot.ensures ∙ c.self.invariant.1.first c.args.conn)
@@ -17,7 +17,7 @@ returns-in_err-slot-clause-taken c =
 
 pub invariant_of-self : goal.invariant_of-self
 invariant_of-self c =
-    let held : ℕ → Option Entered = held_at c.self.inside.chains.kept in
+    let held : ℕ → Option Entered = held_at c.self.inside.by_connection.kept in
     let index : List Lead = c.self.inside.index.entries in
     let slot : ℕ = c.in_ok-slot.slot in (
       c.self.invariant.0,
@@ -27,7 +27,7 @@ invariant_of-self c =
 
 pub returns-clause-taken : goal.returns-clause-taken
 returns-clause-taken c =
-    let held : ℕ → Option Entered = held_at c.self.inside.chains.kept in
+    let held : ℕ → Option Entered = held_at c.self.inside.by_connection.kept in
     let index : List Lead = c.self.inside.index.entries in
     let slot : ℕ = c.in_ok-slot.slot in
     let at : slice_get (order_by held index c.args.conn) 0 ≡ Some slot = sym (c.in_ok-slot.ensures ∙ c.self.invariant.1.first c.args.conn) in
@@ -37,7 +37,7 @@ returns-clause-taken c =
 
 pub returns-clause-left : goal.returns-clause-left
 returns-clause-left c =
-    let held : ℕ → Option Entered = held_at c.self.inside.chains.kept in
+    let held : ℕ → Option Entered = held_at c.self.inside.by_connection.kept in
     let index : List Lead = c.self.inside.index.entries in
     let slot : ℕ = c.in_ok-slot.slot in
     let at : slice_get (order_by held index c.args.conn) 0 ≡ Some slot = sym (c.in_ok-slot.ensures ∙ c.self.invariant.1.first c.args.conn) in

@@ -47,7 +47,7 @@ fresh_chunks-requires-clause-size c =
     let plan : IsPlan (the_view c.self.inside) c.args.batch.now c.args.plan = subst (λ (x : LiveBuffer). IsPlan x c.args.batch.now c.args.plan) (sym c.self.view_is) c.requires.planned in
     let free : live_refusal (the_view c.self.inside) c.args.batch.now c.args.now ≡ None = ap (λ x. live_refusal x c.args.batch.now c.args.now) c.self.view_is ∙ c.requires.fits in
     let room = room-left v r c.args.now p own.sound plan free in
-    omega (arith, ap size_of plan.back, size-drop (joining_to c.self.inside.limits.chunk (find (is_open_of r.tag) c.self.inside.slots.chunks) r.entries) r.entries, size_joined r.entries, c.entries.ensures.bound)
+    omega (arith, ap size_of plan.back, size-drop (joining_to c.self.inside.limits.chunk (find (is_open_of r.tag) c.self.inside.index.chunks) r.entries) r.entries, size_joined r.entries, c.entries.ensures.bound)
 
 pub newest_of-newest-requires : goal.newest_of-newest-requires
 newest_of-newest-requires c =
@@ -65,9 +65,9 @@ newest_of-newest-requires c =
 
 pub invariant_of-self-in_err-prepare : goal.invariant_of-self-in_err-prepare
 invariant_of-self-in_err-prepare c =
-    let kept : c.reserve.new.self.chunks ≡ c.self.inside.slots.chunks = ap (λ (h : Held). h.chunks) c.in_ok-reserve.ensures.kept in
-    let kept_last : c.reserve.new.self.last ≡ c.self.inside.slots.last = ap (λ (h : Held). h.last) c.in_ok-reserve.ensures.kept in
-    let kept_retry : c.reserve.new.self.retry ≡ c.self.inside.slots.retry = ap (λ (h : Held). h.retry) c.in_ok-reserve.ensures.kept in
+    let kept : c.reserve.new.self.chunks ≡ c.self.inside.index.chunks = ap (λ (h : Held). h.chunks) c.in_ok-reserve.ensures.kept in
+    let kept_last : c.reserve.new.self.last ≡ c.self.inside.index.last = ap (λ (h : Held). h.last) c.in_ok-reserve.ensures.kept in
+    let kept_retry : c.reserve.new.self.retry ≡ c.self.inside.index.retry = ap (λ (h : Held). h.retry) c.in_ok-reserve.ensures.kept in
     rw (kept, kept_last, kept_retry, c.in_err-prepare.ensures.err) (record {
       stored = c.self.invariant.stored;
       newest = c.self.invariant.newest;
@@ -89,11 +89,11 @@ fill-requires-clause-rising c =
     (subst (λ (x : LiveBuffer). IfNone c.next_number.result (live_next_number x ≡ 2 ^ 64)) (sym c.self.view_is) c.next_number.ensures.none) room.0 up in
     let made : c.in_ok-fresh.fresh.items ≡ fresh_of c.self.inside.limits.chunk r.tag (max c.self.inside.moment c.args.now) c.unwrap_or-first.result (entries_in p.back) =
     c.in_ok-fresh.ensures ∙ (λ i. fresh_of (c.from-limit.ensures i) (c.tag-tag.ensures.value i) (c.max-moment.ensures i) c.unwrap_or-first.result (entries_in p.back)) in
-    let kept : c.reserve.new.self.chunks ≡ c.self.inside.slots.chunks = ap (λ (h : Held). h.chunks) c.in_ok-reserve.ensures.kept in
-    let kept_last : c.reserve.new.self.last ≡ c.self.inside.slots.last = ap (λ (h : Held). h.last) c.in_ok-reserve.ensures.kept in
-    let kept_retry : c.reserve.new.self.retry ≡ c.self.inside.slots.retry = ap (λ (h : Held). h.retry) c.in_ok-reserve.ensures.kept in
+    let kept : c.reserve.new.self.chunks ≡ c.self.inside.index.chunks = ap (λ (h : Held). h.chunks) c.in_ok-reserve.ensures.kept in
+    let kept_last : c.reserve.new.self.last ≡ c.self.inside.index.last = ap (λ (h : Held). h.last) c.in_ok-reserve.ensures.kept in
+    let kept_retry : c.reserve.new.self.retry ≡ c.self.inside.index.retry = ap (λ (h : Held). h.retry) c.in_ok-reserve.ensures.kept in
     let needs : 0 < needed c.self.inside.limits.chunk (entries_in p.back) → c.unwrap_or-first.result ≡ live_next_number v = λ up. next (omega (arith, up, plan.needs)) in
-    subst (λ o. AreAbove o c.in_ok-fresh.fresh.items) (sym kept_last) (subst (AreAbove c.self.inside.slots.last) (sym made) (fresh-above v r.tag (max c.self.inside.moment c.args.now) c.unwrap_or-first.result (entries_in p.back) needs))
+    subst (λ o. AreAbove o c.in_ok-fresh.fresh.items) (sym kept_last) (subst (AreAbove c.self.inside.index.last) (sym made) (fresh-above v r.tag (max c.self.inside.moment c.args.now) c.unwrap_or-first.result (entries_in p.back) needs))
 
 pub fill-requires-clause-fits : goal.fill-requires-clause-fits
 fill-requires-clause-fits c = λ n d joins at small.
@@ -104,12 +104,12 @@ fill-requires-clause-fits c = λ n d joins at small.
     let plan : IsPlan (the_view c.self.inside) c.args.batch.now c.args.plan = subst (λ (x : LiveBuffer). IsPlan x c.args.batch.now c.args.plan) (sym c.self.view_is) c.requires.planned in
     let free : live_refusal (the_view c.self.inside) c.args.batch.now c.args.now ≡ None = ap (λ x. live_refusal x c.args.batch.now c.args.now) c.self.view_is ∙ c.requires.fits in
     let room = room-left v r c.args.now p own.sound plan free in
-    let kept : c.reserve.new.self.chunks ≡ c.self.inside.slots.chunks = ap (λ (h : Held). h.chunks) c.in_ok-reserve.ensures.kept in
-    let kept_last : c.reserve.new.self.last ≡ c.self.inside.slots.last = ap (λ (h : Held). h.last) c.in_ok-reserve.ensures.kept in
-    let kept_retry : c.reserve.new.self.retry ≡ c.self.inside.slots.retry = ap (λ (h : Held). h.retry) c.in_ok-reserve.ensures.kept in
-    let o = find (is_open_of r.tag) c.self.inside.slots.chunks in
-    let e = number-found (find (is_open_of r.tag) c.self.inside.slots.chunks) n (sym joins ∙ plan.joins) in
-    let there : find (is_at n) c.self.inside.slots.chunks ≡ Some e.0 = ap (λ k. find (is_at k) c.self.inside.slots.chunks) (sym e.1.1) ∙ found-same (is_open_of r.tag) c.self.inside.slots.chunks e.0 own.sound.in_order e.1.0 in
+    let kept : c.reserve.new.self.chunks ≡ c.self.inside.index.chunks = ap (λ (h : Held). h.chunks) c.in_ok-reserve.ensures.kept in
+    let kept_last : c.reserve.new.self.last ≡ c.self.inside.index.last = ap (λ (h : Held). h.last) c.in_ok-reserve.ensures.kept in
+    let kept_retry : c.reserve.new.self.retry ≡ c.self.inside.index.retry = ap (λ (h : Held). h.retry) c.in_ok-reserve.ensures.kept in
+    let o = find (is_open_of r.tag) c.self.inside.index.chunks in
+    let e = number-found (find (is_open_of r.tag) c.self.inside.index.chunks) n (sym joins ∙ plan.joins) in
+    let there : find (is_at n) c.self.inside.index.chunks ≡ Some e.0 = ap (λ k. find (is_at k) c.self.inside.index.chunks) (sym e.1.1) ∙ found-same (is_open_of r.tag) c.self.inside.index.chunks e.0 own.sound.in_order e.1.0 in
     let is : e.0 ≡ d = same_Some _ _ (sym there ∙ ap (find (is_at n)) (sym kept) ∙ at) in
     let chunk : c.self.inside.limits.chunk < 2 ^ 32 = search rules in
     rw plan.front (joining-fits c.self.inside.limits.chunk o d r.entries (e.1.0 ∙ ap Some is) chunk small)
@@ -118,10 +118,10 @@ pub invariant_of-self-in_err-key : goal.invariant_of-self-in_err-key
 invariant_of-self-in_err-key c =
     let r = c.args.batch.now in
     let plan : IsPlan (the_view c.self.inside) c.args.batch.now c.args.plan = subst (λ (x : LiveBuffer). IsPlan x c.args.batch.now c.args.plan) (sym c.self.view_is) c.requires.planned in
-    let kept : c.reserve.new.self.chunks ≡ c.self.inside.slots.chunks = ap (λ (h : Held). h.chunks) c.in_ok-reserve.ensures.kept in
-    let kept_last : c.reserve.new.self.last ≡ c.self.inside.slots.last = ap (λ (h : Held). h.last) c.in_ok-reserve.ensures.kept in
-    let kept_retry : c.reserve.new.self.retry ≡ c.self.inside.slots.retry = ap (λ (h : Held). h.retry) c.in_ok-reserve.ensures.kept in
-    let there : IsSome (tag_number r.tag c.self.inside.tags) = joined-has c.self.inside.tags c.self.inside.slots.chunks r.tag c.args.plan.joins c.self.invariant.newest plan.joins c.in_err-key.ensures.sure in
+    let kept : c.reserve.new.self.chunks ≡ c.self.inside.index.chunks = ap (λ (h : Held). h.chunks) c.in_ok-reserve.ensures.kept in
+    let kept_last : c.reserve.new.self.last ≡ c.self.inside.index.last = ap (λ (h : Held). h.last) c.in_ok-reserve.ensures.kept in
+    let kept_retry : c.reserve.new.self.retry ≡ c.self.inside.index.retry = ap (λ (h : Held). h.retry) c.in_ok-reserve.ensures.kept in
+    let there : IsSome (tag_number r.tag c.self.inside.tags) = joined-has c.self.inside.tags c.self.inside.index.chunks r.tag c.args.plan.joins c.self.invariant.newest plan.joins c.in_err-key.ensures.sure in
     let tags : c.prepare.new.self ≡ c.self.inside.tags = c.prepare.ensures.same (subst (λ t. IsSome (tag_number t c.self.inside.tags)) (sym c.tag-tag.ensures.value) there) in
     rw (c.in_err-key.ensures.err, kept, kept_last, kept_retry, tags) (record {
       stored = c.self.invariant.stored;
@@ -166,7 +166,7 @@ put-requires-clause-new c =
     let plan : IsPlan (the_view c.self.inside) c.args.batch.now c.args.plan = subst (λ (x : LiveBuffer). IsPlan x c.args.batch.now c.args.plan) (sym c.self.view_is) c.requires.planned in
     let free : live_refusal (the_view c.self.inside) c.args.batch.now c.args.now ≡ None = ap (λ x. live_refusal x c.args.batch.now c.args.now) c.self.view_is ∙ c.requires.fits in
     let room = room-left v r c.args.now p own.sound plan free in
-    let items = c.self.inside.slots.chunks in
+    let items = c.self.inside.index.chunks in
     new c.newest_of-newest.result (λ is. omega (
       arith,
       c.len-count.ensures.value,
@@ -187,7 +187,7 @@ put-requires-clause-some c =
     let plan : IsPlan (the_view c.self.inside) c.args.batch.now c.args.plan = subst (λ (x : LiveBuffer). IsPlan x c.args.batch.now c.args.plan) (sym c.self.view_is) c.requires.planned in
     let free : live_refusal (the_view c.self.inside) c.args.batch.now c.args.now ≡ None = ap (λ x. live_refusal x c.args.batch.now c.args.now) c.self.view_is ∙ c.requires.fits in
     let room = room-left v r c.args.now p own.sound plan free in
-    let items = c.self.inside.slots.chunks in
+    let items = c.self.inside.index.chunks in
     let limit = c.self.inside.limits.chunk in
     λ lt. elim (cases_lt 0 p.needed) [
       | inl up ↦ new c.newest_of-newest.result (c.newest_of-newest.ensures.some up) c.in_ok-prepare.ensures.ok
@@ -241,7 +241,7 @@ put-requires-clause-bytes c =
     let room = room-left v r c.args.now p own.sound plan free in
     let size : length c.entries.result.now ≡ size_of r.entries = ap length c.entries.ensures.value ∙ sym (size_joined r.entries) in
     let total : c.self.inside.limits.total < 2 ^ 64 = search rules in
-    omega (arith, size, room.2, total, c.prepare.ensures.bytes c.tag-tag.result.now, c.self.invariant.counted.bytes c.tag-tag.result.now, bytes-among c.tag-tag.result.now c.self.inside.slots.chunks)
+    omega (arith, size, room.2, total, c.prepare.ensures.bytes c.tag-tag.result.now, c.self.invariant.counted.bytes c.tag-tag.result.now, bytes-among c.tag-tag.result.now c.self.inside.index.chunks)
 
 pub overflow_add-self : goal.overflow_add-self
 overflow_add-self c =
@@ -281,21 +281,21 @@ invariant_of-self-2 c =
     (subst (λ (x : LiveBuffer). IfNone c.next_number.result (live_next_number x ≡ 2 ^ 64)) (sym c.self.view_is) c.next_number.ensures.none) room.0 up in
     let made : c.in_ok-fresh.fresh.items ≡ fresh_of c.self.inside.limits.chunk r.tag (max c.self.inside.moment c.args.now) c.unwrap_or-first.result (entries_in p.back) =
     c.in_ok-fresh.ensures ∙ (λ i. fresh_of (c.from-limit.ensures i) (c.tag-tag.ensures.value i) (c.max-moment.ensures i) c.unwrap_or-first.result (entries_in p.back)) in
-    let kept : c.reserve.new.self.chunks ≡ c.self.inside.slots.chunks = ap (λ (h : Held). h.chunks) c.in_ok-reserve.ensures.kept in
-    let kept_last : c.reserve.new.self.last ≡ c.self.inside.slots.last = ap (λ (h : Held). h.last) c.in_ok-reserve.ensures.kept in
-    let kept_retry : c.reserve.new.self.retry ≡ c.self.inside.slots.retry = ap (λ (h : Held). h.retry) c.in_ok-reserve.ensures.kept in
-    let chunks : c.fill.new.slots.chunks ≡ filled_in p.joins (entries_in p.front) (stage_last (length c.in_ok-fresh.fresh.items == 0)) c.self.inside.slots.chunks ++ c.in_ok-fresh.fresh.items =
+    let kept : c.reserve.new.self.chunks ≡ c.self.inside.index.chunks = ap (λ (h : Held). h.chunks) c.in_ok-reserve.ensures.kept in
+    let kept_last : c.reserve.new.self.last ≡ c.self.inside.index.last = ap (λ (h : Held). h.last) c.in_ok-reserve.ensures.kept in
+    let kept_retry : c.reserve.new.self.retry ≡ c.self.inside.index.retry = ap (λ (h : Held). h.retry) c.in_ok-reserve.ensures.kept in
+    let chunks : c.fill.new.index.chunks ≡ filled_in p.joins (entries_in p.front) (stage_last (length c.in_ok-fresh.fresh.items == 0)) c.self.inside.index.chunks ++ c.in_ok-fresh.fresh.items =
     ap (λ (h : Held). h.chunks) c.in_ok-key.ensures.ok ∙ ap (λ l. filled_in p.joins (entries_in p.front) (stage_last (length c.in_ok-fresh.fresh.items == 0)) l ++ c.in_ok-fresh.fresh.items) kept in
-    let last : c.fill.new.slots.last ≡ last_of c.self.inside.slots.last c.in_ok-fresh.fresh.items = ap (λ (h : Held). h.last) c.in_ok-key.ensures.ok ∙ ap (λ o. last_of o c.in_ok-fresh.fresh.items) kept_last in
-    let same : record v { chunks = c.fill.new.slots.chunks; greatest = c.fill.new.slots.last; accepted = c.self.inside.accepted + c.len-count.result; moment = c.max-moment.result } ≡ live_enters v r c.args.now =
+    let last : c.fill.new.index.last ≡ last_of c.self.inside.index.last c.in_ok-fresh.fresh.items = ap (λ (h : Held). h.last) c.in_ok-key.ensures.ok ∙ ap (λ o. last_of o c.in_ok-fresh.fresh.items) kept_last in
+    let same : record v { chunks = c.fill.new.index.chunks; greatest = c.fill.new.index.last; accepted = c.self.inside.accepted + c.len-count.result; moment = c.max-moment.result } ≡ live_enters v r c.args.now =
     (λ i. record v { chunks = chunks i; greatest = last i; accepted = c.self.inside.accepted + c.len-count.result; moment = c.max-moment.ensures i })
     ∙ entered v r c.args.now p own.sound plan c.unwrap_or-first.result c.in_ok-fresh.fresh.items c.len-count.result made next c.len-count.ensures.value in
     let size : length c.entries.result.now ≡ size_of r.entries = ap length c.entries.ensures.value ∙ sym (size_joined r.entries) in
     let fits : length r.tag ≤ TAG_LIMIT = omega (arith, ap length c.tag-tag.ensures.value, c.tag-tag.ensures.bound) in
-    let items = c.self.inside.slots.chunks in
+    let items = c.self.inside.index.chunks in
     let back = entries_in p.back in
-    let all : c.fill.new.slots.chunks ≡ filled_in p.joins (entries_in p.front) (stage_last (length (fresh_of c.self.inside.limits.chunk r.tag (max c.self.inside.moment c.args.now) c.unwrap_or-first.result (entries_in p.back)) == 0)) c.self.inside.slots.chunks ++ fresh_of c.self.inside.limits.chunk r.tag (max c.self.inside.moment c.args.now) c.unwrap_or-first.result (entries_in p.back) =
-    chunks ∙ (λ i. filled_in p.joins (entries_in p.front) (stage_last (length (made i) == 0)) c.self.inside.slots.chunks ++ made i) in
+    let all : c.fill.new.index.chunks ≡ filled_in p.joins (entries_in p.front) (stage_last (length (fresh_of c.self.inside.limits.chunk r.tag (max c.self.inside.moment c.args.now) c.unwrap_or-first.result (entries_in p.back)) == 0)) c.self.inside.index.chunks ++ fresh_of c.self.inside.limits.chunk r.tag (max c.self.inside.moment c.args.now) c.unwrap_or-first.result (entries_in p.back) =
+    chunks ∙ (λ i. filled_in p.joins (entries_in p.front) (stage_last (length (made i) == 0)) c.self.inside.index.chunks ++ made i) in
     let next_stored = enters-stored v r c.args.now c.self.inside.bytes own fits free in
     let number = c.newest_of-newest.result in
     let told = subst (λ l. IfSome c.newest_of-newest.result (λ n. (t : List ℕ) → tag_number t c.put.new.self ≡ cond (bytes_eq l t) (Some n) (tag_number t c.prepare.new.self))) c.tag-tag.ensures.value c.put.ensures.some in
@@ -332,12 +332,12 @@ returns-clause-ok c =
     (subst (λ (x : LiveBuffer). IfNone c.next_number.result (live_next_number x ≡ 2 ^ 64)) (sym c.self.view_is) c.next_number.ensures.none) room.0 up in
     let made : c.in_ok-fresh.fresh.items ≡ fresh_of c.self.inside.limits.chunk r.tag (max c.self.inside.moment c.args.now) c.unwrap_or-first.result (entries_in p.back) =
     c.in_ok-fresh.ensures ∙ (λ i. fresh_of (c.from-limit.ensures i) (c.tag-tag.ensures.value i) (c.max-moment.ensures i) c.unwrap_or-first.result (entries_in p.back)) in
-    let kept : c.reserve.new.self.chunks ≡ c.self.inside.slots.chunks = ap (λ (h : Held). h.chunks) c.in_ok-reserve.ensures.kept in
-    let kept_last : c.reserve.new.self.last ≡ c.self.inside.slots.last = ap (λ (h : Held). h.last) c.in_ok-reserve.ensures.kept in
-    let chunks : c.fill.new.slots.chunks ≡ filled_in p.joins (entries_in p.front) (stage_last (length c.in_ok-fresh.fresh.items == 0)) c.self.inside.slots.chunks ++ c.in_ok-fresh.fresh.items =
+    let kept : c.reserve.new.self.chunks ≡ c.self.inside.index.chunks = ap (λ (h : Held). h.chunks) c.in_ok-reserve.ensures.kept in
+    let kept_last : c.reserve.new.self.last ≡ c.self.inside.index.last = ap (λ (h : Held). h.last) c.in_ok-reserve.ensures.kept in
+    let chunks : c.fill.new.index.chunks ≡ filled_in p.joins (entries_in p.front) (stage_last (length c.in_ok-fresh.fresh.items == 0)) c.self.inside.index.chunks ++ c.in_ok-fresh.fresh.items =
     ap (λ (h : Held). h.chunks) c.in_ok-key.ensures.ok ∙ ap (λ l. filled_in p.joins (entries_in p.front) (stage_last (length c.in_ok-fresh.fresh.items == 0)) l ++ c.in_ok-fresh.fresh.items) kept in
-    let last : c.fill.new.slots.last ≡ last_of c.self.inside.slots.last c.in_ok-fresh.fresh.items = ap (λ (h : Held). h.last) c.in_ok-key.ensures.ok ∙ ap (λ o. last_of o c.in_ok-fresh.fresh.items) kept_last in
-    let same : record v { chunks = c.fill.new.slots.chunks; greatest = c.fill.new.slots.last; accepted = c.self.inside.accepted + c.len-count.result; moment = c.max-moment.result } ≡ live_enters v r c.args.now =
+    let last : c.fill.new.index.last ≡ last_of c.self.inside.index.last c.in_ok-fresh.fresh.items = ap (λ (h : Held). h.last) c.in_ok-key.ensures.ok ∙ ap (λ o. last_of o c.in_ok-fresh.fresh.items) kept_last in
+    let same : record v { chunks = c.fill.new.index.chunks; greatest = c.fill.new.index.last; accepted = c.self.inside.accepted + c.len-count.result; moment = c.max-moment.result } ≡ live_enters v r c.args.now =
     (λ i. record v { chunks = chunks i; greatest = last i; accepted = c.self.inside.accepted + c.len-count.result; moment = c.max-moment.ensures i })
     ∙ entered v r c.args.now p own.sound plan c.unwrap_or-first.result c.in_ok-fresh.fresh.items c.len-count.result made next c.len-count.ensures.value in
     same ∙ ap (λ x. live_enters x r c.args.now) c.self.view_is
@@ -356,8 +356,8 @@ returns-clause-spans c =
     (subst (λ (x : LiveBuffer). IfNone c.next_number.result (live_next_number x ≡ 2 ^ 64)) (sym c.self.view_is) c.next_number.ensures.none) room.0 up in
     let made : c.in_ok-fresh.fresh.items ≡ fresh_of c.self.inside.limits.chunk r.tag (max c.self.inside.moment c.args.now) c.unwrap_or-first.result (entries_in p.back) =
     c.in_ok-fresh.ensures ∙ (λ i. fresh_of (c.from-limit.ensures i) (c.tag-tag.ensures.value i) (c.max-moment.ensures i) c.unwrap_or-first.result (entries_in p.back)) in
-    let opened : option_copied c.joined_by.result ≡ find (is_open_of r.tag) c.self.inside.slots.chunks = c.joined_by.ensures ∙ ap (λ (x : LiveBuffer). find (is_open_of c.args.batch.now.tag) x.chunks) (sym c.self.view_is) in
-    let spans : c.in_ok-spans.spans ≡ joined_span (find (is_open_of r.tag) c.self.inside.slots.chunks) (entries_in p.front) ++ map span_of c.in_ok-fresh.fresh.items =
+    let opened : option_copied c.joined_by.result ≡ find (is_open_of r.tag) c.self.inside.index.chunks = c.joined_by.ensures ∙ ap (λ (x : LiveBuffer). find (is_open_of c.args.batch.now.tag) x.chunks) (sym c.self.view_is) in
+    let spans : c.in_ok-spans.spans ≡ joined_span (find (is_open_of r.tag) c.self.inside.index.chunks) (entries_in p.front) ++ map span_of c.in_ok-fresh.fresh.items =
     c.in_ok-spans.ensures
     ∙ (λ i. (c.joined_span-joined.ensures ∙ ap (λ o. joined_span o (entries_in p.front)) opened) i ++ map span_of (c.deref.ensures.value i)) in
     entered-spans v r c.args.now p own.sound plan c.unwrap_or-first.result c.in_ok-fresh.fresh.items c.in_ok-spans.spans made next spans

@@ -10,7 +10,7 @@ use Rattle.fwd_chunks.specs.contracts.buffer.Buffer.{the_view}
 pub invariant_of-self : goal.invariant_of-self
 invariant_of-self c = rw (c.flush.ensures.closed, c.max-self-inside.ensures) (record {
   stored = flushes-stored (the_view c.self.inside) c.args.now c.args.kind c.self.inside.bytes c.self.invariant.stored;
-  newest = newest-changed c.self.inside.tags (is_due c.args.kind c.self.inside.limits.interval (max c.self.inside.moment c.args.now)) (staged Closed) c.self.inside.slots.chunks (λ d. refl) c.self.invariant.newest;
-  counted = counted-changed c.self.inside.tags (is_due c.args.kind c.self.inside.limits.interval (max c.self.inside.moment c.args.now)) (staged Closed) c.self.inside.slots.chunks (λ d. refl) (λ d. refl) c.self.invariant.counted;
+  newest = newest-changed c.self.inside.tags (is_due c.args.kind c.self.inside.limits.interval (max c.self.inside.moment c.args.now)) (staged Closed) c.self.inside.index.chunks (λ d. refl) c.self.invariant.newest;
+  counted = counted-changed c.self.inside.tags (is_due c.args.kind c.self.inside.limits.interval (max c.self.inside.moment c.args.now)) (staged Closed) c.self.inside.index.chunks (λ d. refl) (λ d. refl) c.self.invariant.counted;
   waits = c.self.invariant.waits;
 })

@@ -10,7 +10,7 @@ use Rattle.fwd_chunks.specs.contracts.buffer.Buffer.{the_view}
 pub invariant_of-self : goal.invariant_of-self
 invariant_of-self c = rw c.stage.ensures (record {
   stored = changed-stored (the_view c.self.inside) (is_at c.args.number) (staged (Taken c.args.worker)) c.args.moment c.self.inside.bytes (λ d. refl) (λ d. refl) (λ d. refl) (λ d. refl) c.self.invariant.stored;
-  newest = newest-changed c.self.inside.tags (is_at c.args.number) (staged (Taken c.args.worker)) c.self.inside.slots.chunks (λ d. refl) c.self.invariant.newest;
-  counted = counted-changed c.self.inside.tags (is_at c.args.number) (staged (Taken c.args.worker)) c.self.inside.slots.chunks (λ d. refl) (λ d. refl) c.self.invariant.counted;
+  newest = newest-changed c.self.inside.tags (is_at c.args.number) (staged (Taken c.args.worker)) c.self.inside.index.chunks (λ d. refl) c.self.invariant.newest;
+  counted = counted-changed c.self.inside.tags (is_at c.args.number) (staged (Taken c.args.worker)) c.self.inside.index.chunks (λ d. refl) (λ d. refl) c.self.invariant.counted;
   waits = c.self.invariant.waits;
 })

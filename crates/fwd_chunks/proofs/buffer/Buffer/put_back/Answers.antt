@@ -12,14 +12,14 @@ use Rattle.fwd_chunks.specs.contracts.buffer.Buffer.{the_view}
 pub invariant_of-self : goal.invariant_of-self
 invariant_of-self c = rw c.put_back.ensures (record {
   stored = put_back-stored (the_view c.self.inside) c.args.number c.is_some.result c.match-loss.moment c.self.inside.bytes c.self.invariant.stored;
-  newest = newest-put_back c.self.inside.tags c.args.number c.is_some.result c.match-loss.moment c.self.inside.slots.chunks c.self.invariant.newest;
-  counted = counted-put_back c.self.inside.tags c.args.number c.is_some.result c.match-loss.moment c.self.inside.slots.chunks c.self.invariant.counted;
+  newest = newest-put_back c.self.inside.tags c.args.number c.is_some.result c.match-loss.moment c.self.inside.index.chunks c.self.invariant.newest;
+  counted = counted-put_back c.self.inside.tags c.args.number c.is_some.result c.match-loss.moment c.self.inside.index.chunks c.self.invariant.counted;
   waits = c.self.invariant.waits;
 })
 
 pub returns : goal.returns
 returns c =
-    let items = c.self.inside.slots.chunks in
+    let items = c.self.inside.index.chunks in
     let v = the_view c.self.inside in
     let lost : c.is_some.result ≡ is_some c.args.loss = c.is_some.ensures ∙ elim c.match-loss.branch [ in-None w ↦ ap is_some w.loss-is | in-Some w ↦ ap is_some w.loss-is ∙ ap is_some (sym w.in-Some.is) ] in
     let moment : c.match-loss.moment ≡ moment_after v c.args.loss = elim c.match-loss.branch [

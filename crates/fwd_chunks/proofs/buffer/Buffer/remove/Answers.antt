@@ -24,30 +24,30 @@ overflow_add-self c =
 
 pub take-requires-clause-held : goal.take-requires-clause-held
 take-requires-clause-held c =
-    let e : find (is_at c.args.number) c.self.inside.slots.chunks ≡ Some c.in-Some.chunk = sym c.in-Some.ensures.result in
-    let le : length c.in-Some.chunk.entries ≤ held_by (tag_entry c.in-Some.chunk.tag c.self.inside.tags) = leaves-count c.self.inside.tags c.args.number c.self.inside.slots.chunks c.in-Some.chunk (leaves-with c.self.inside.tags c.args.number c.self.inside.slots.chunks c.in-Some.chunk c.self.invariant.stored.sound.in_order e c.self.invariant.counted) in
+    let e : find (is_at c.args.number) c.self.inside.index.chunks ≡ Some c.in-Some.chunk = sym c.in-Some.ensures.result in
+    let le : length c.in-Some.chunk.entries ≤ held_by (tag_entry c.in-Some.chunk.tag c.self.inside.tags) = leaves-count c.self.inside.tags c.args.number c.self.inside.index.chunks c.in-Some.chunk (leaves-with c.self.inside.tags c.args.number c.self.inside.index.chunks c.in-Some.chunk c.self.invariant.stored.sound.in_order e c.self.invariant.counted) in
     rw (c.as_slice.ensures, c.len-count.ensures) le
 
 pub take-requires-clause-bytes : goal.take-requires-clause-bytes
 take-requires-clause-bytes c =
-    let e : find (is_at c.args.number) c.self.inside.slots.chunks ≡ Some c.in-Some.chunk = sym c.in-Some.ensures.result in
-    let le : size_of c.in-Some.chunk.entries ≤ bytes_by (tag_entry c.in-Some.chunk.tag c.self.inside.tags) = leaves-size c.self.inside.tags c.args.number c.self.inside.slots.chunks c.in-Some.chunk (leaves-with c.self.inside.tags c.args.number c.self.inside.slots.chunks c.in-Some.chunk c.self.invariant.stored.sound.in_order e c.self.invariant.counted) in
+    let e : find (is_at c.args.number) c.self.inside.index.chunks ≡ Some c.in-Some.chunk = sym c.in-Some.ensures.result in
+    let le : size_of c.in-Some.chunk.entries ≤ bytes_by (tag_entry c.in-Some.chunk.tag c.self.inside.tags) = leaves-size c.self.inside.tags c.args.number c.self.inside.index.chunks c.in-Some.chunk (leaves-with c.self.inside.tags c.args.number c.self.inside.index.chunks c.in-Some.chunk c.self.invariant.stored.sound.in_order e c.self.invariant.counted) in
     rw (c.as_slice.ensures, c.size-size.ensures.value) le
 
 pub take-requires-clause-all : goal.take-requires-clause-all
 take-requires-clause-all c =
-    let e : find (is_at c.args.number) c.self.inside.slots.chunks ≡ Some c.in-Some.chunk = sym c.in-Some.ensures.result in
-    rw (c.as_slice.ensures, c.len-count.ensures, c.size-size.ensures.value) (leaves-all c.self.inside.tags c.args.number c.self.inside.slots.chunks c.in-Some.chunk (leaves-with c.self.inside.tags c.args.number c.self.inside.slots.chunks c.in-Some.chunk c.self.invariant.stored.sound.in_order e c.self.invariant.counted))
+    let e : find (is_at c.args.number) c.self.inside.index.chunks ≡ Some c.in-Some.chunk = sym c.in-Some.ensures.result in
+    rw (c.as_slice.ensures, c.len-count.ensures, c.size-size.ensures.value) (leaves-all c.self.inside.tags c.args.number c.self.inside.index.chunks c.in-Some.chunk (leaves-with c.self.inside.tags c.args.number c.self.inside.index.chunks c.in-Some.chunk c.self.invariant.stored.sound.in_order e c.self.invariant.counted))
 
 pub invariant_of-self : goal.invariant_of-self
 invariant_of-self c =
     let r = c.in-Some.chunk in
     let n = c.args.number in
     let v = the_view c.self.inside in
-    let chunks = c.self.inside.slots.chunks in
+    let chunks = c.self.inside.index.chunks in
     let own = c.self.invariant.stored in
-    let e : find (is_at c.args.number) c.self.inside.slots.chunks ≡ Some c.in-Some.chunk = sym c.in-Some.ensures.result in
-    let leaves : Leaves c.self.inside.tags c.args.number c.self.inside.slots.chunks c.in-Some.chunk = leaves-with c.self.inside.tags n chunks r own.sound.in_order e c.self.invariant.counted in
+    let e : find (is_at c.args.number) c.self.inside.index.chunks ≡ Some c.in-Some.chunk = sym c.in-Some.ensures.result in
+    let leaves : Leaves c.self.inside.tags c.args.number c.self.inside.index.chunks c.in-Some.chunk = leaves-with c.self.inside.tags n chunks r own.sound.in_order e c.self.invariant.counted in
     let held : (t : List ℕ) → held_by (tag_entry t c.take.new.self) ≡ held_by (tag_entry t c.self.inside.tags) - cond (bytes_eq c.in-Some.chunk.tag t) (length c.in-Some.chunk.entries) 0 = λ t. c.take.ensures.held t ∙ (λ i. held_by (tag_entry t c.self.inside.tags) - cond (bytes_eq (c.as_slice.ensures i) t) (c.len-count.ensures i) 0) in
     let bytes : (t : List ℕ) → bytes_by (tag_entry t c.take.new.self) ≡ bytes_by (tag_entry t c.self.inside.tags) - cond (bytes_eq c.in-Some.chunk.tag t) (size_of c.in-Some.chunk.entries) 0 = λ t. c.take.ensures.bytes t ∙ (λ i. bytes_by (tag_entry t c.self.inside.tags) - cond (bytes_eq (c.as_slice.ensures i) t) (c.size-size.ensures.value i) 0) in
     let counted = counted-without c.self.inside.tags n chunks r leaves c.take.new.self held bytes (c.take.ensures.some c.self.invariant.counted.some) in
@@ -62,8 +62,8 @@ invariant_of-self c =
 
 pub invariant_of-self-in_default : goal.invariant_of-self-in_default
 invariant_of-self-in_default c =
-    let none : find (is_at c.args.number) c.self.inside.slots.chunks ≡ None = sym c.in_default.ensures.result in
-    rw (c.in_default.ensures.left, (filter-gone c.args.number c.self.inside.slots.chunks none).1) (record {
+    let none : find (is_at c.args.number) c.self.inside.index.chunks ≡ None = sym c.in_default.ensures.result in
+    rw (c.in_default.ensures.left, (filter-gone c.args.number c.self.inside.index.chunks none).1) (record {
       stored = c.self.invariant.stored;
       newest = c.self.invariant.newest;
       counted = c.self.invariant.counted;
@@ -73,7 +73,7 @@ invariant_of-self-in_default c =
 pub returns-in-Some : goal.returns-in-Some
 returns-in-Some c =
     let v = the_view c.self.inside in
-    let e : find (is_at c.args.number) c.self.inside.slots.chunks ≡ Some c.in-Some.chunk = sym c.in-Some.ensures.result in
+    let e : find (is_at c.args.number) c.self.inside.index.chunks ≡ Some c.in-Some.chunk = sym c.in-Some.ensures.result in
     (λ i. record v { chunks = ap (λ h. h.chunks) c.in-Some.ensures.left i; greatest = ap (λ h. h.last) c.in-Some.ensures.left i; settled = c.self.inside.settled + c.len-count.ensures i })
     ∙ settles-is v c.args.number c.self.inside.bytes c.in-Some.chunk c.self.invariant.stored e
     ∙ ap (λ b. live_settles b c.args.number) c.self.view_is
@@ -81,7 +81,7 @@ returns-in-Some c =
 pub returns-in_default : goal.returns-in_default
 returns-in_default c =
     let v = the_view c.self.inside in
-    let none : find (is_at c.args.number) c.self.inside.slots.chunks ≡ None = sym c.in_default.ensures.result in
+    let none : find (is_at c.args.number) c.self.inside.index.chunks ≡ None = sym c.in_default.ensures.result in
     (λ i. record v { chunks = ap (λ h. h.chunks) c.in_default.ensures.left i; greatest = ap (λ h. h.last) c.in_default.ensures.left i })
     ∙ settles-none v c.args.number none
     ∙ ap (λ b. live_settles b c.args.number) c.self.view_is

@@ -9,31 +9,31 @@ use Rattle.fwd_chunks.proofs.chunk_index.ChunkIndex.stage.Goals as goal
 
 pub returns-in_default : goal.returns-in_default
 returns-in_default c =
-    let nowhere : position (is_slot c.args.number) c.self.inside.shelf.slots ≡ None = sym c.place_of.ensures ∙ c.in_default.is in
+    let nowhere : position (is_slot c.args.number) c.self.inside.slab.slots ≡ None = sym c.place_of.ensures ∙ c.in_default.is in
     sym c.self.view_is
-    ∙ (λ j. record (shown c.self.inside.shelf.slots c.self.inside.keys c.self.inside.last c.self.inside.shelf.spare) { chunks = sym (changed-absent c.self.inside.shelf.slots c.args.number (staged c.args.stage) c.self.invariant.own nowhere) j })
+    ∙ (λ j. record (shown c.self.inside.slab.slots c.self.inside.ready_index c.self.inside.last c.self.inside.slab.spare) { chunks = sym (changed-absent c.self.inside.slab.slots c.args.number (staged c.args.stage) c.self.invariant.own nowhere) j })
     ∙ ap (λ (h : Held). record h { chunks = changed (is_at c.args.number) (staged c.args.stage) h.chunks }) c.self.view_is
 
 pub note-requires-clause-ready : goal.note-requires-clause-ready
 note-requires-clause-ready c =
-    let place : position (is_slot c.args.number) c.self.inside.shelf.slots ≡ Some c.in-Some.place = sym c.place_of.ensures ∙ c.in-Some.is in
-    ready-within c.self.inside.shelf.slots c.self.inside.shelf.cap c.self.inside.keys c.self.inside.last c.self.invariant c.args.number c.in-Some.place place
+    let place : position (is_slot c.args.number) c.self.inside.slab.slots ≡ Some c.in-Some.place = sym c.place_of.ensures ∙ c.in-Some.is in
+    ready-within c.self.inside.slab.slots c.self.inside.slab.cap c.self.inside.ready_index c.self.inside.last c.self.invariant c.args.number c.in-Some.place place
 
 pub note-requires-clause-due : goal.note-requires-clause-due
 note-requires-clause-due c =
-    let place : position (is_slot c.args.number) c.self.inside.shelf.slots ≡ Some c.in-Some.place = sym c.place_of.ensures ∙ c.in-Some.is in
-    due-within c.self.inside.shelf.slots c.self.inside.shelf.cap c.self.inside.keys c.self.inside.last c.self.invariant c.args.number c.in-Some.place place
+    let place : position (is_slot c.args.number) c.self.inside.slab.slots ≡ Some c.in-Some.place = sym c.place_of.ensures ∙ c.in-Some.is in
+    due-within c.self.inside.slab.slots c.self.inside.slab.cap c.self.inside.ready_index c.self.inside.last c.self.invariant c.args.number c.in-Some.place place
 
 pub invariant_of-self : goal.invariant_of-self
 invariant_of-self c =
-    let place : position (is_slot c.args.number) c.self.inside.shelf.slots ≡ Some c.in-Some.place = sym c.place_of.ensures ∙ c.in-Some.is in
+    let place : position (is_slot c.args.number) c.self.inside.slab.slots ≡ Some c.in-Some.place = sym c.place_of.ensures ∙ c.in-Some.is in
     rw (c.note.ensures, c.stage.ensures)
-    (put-slotted c.self.inside.shelf.slots c.self.inside.shelf.cap c.self.inside.keys c.self.inside.last c.self.invariant c.args.number c.in-Some.place place (staged c.args.stage) (λ d. refl) (λ d. refl))
+    (put-slotted c.self.inside.slab.slots c.self.inside.slab.cap c.self.inside.ready_index c.self.inside.last c.self.invariant c.args.number c.in-Some.place place (staged c.args.stage) (λ d. refl) (λ d. refl))
 
 pub returns : goal.returns
 returns c =
-    let place : position (is_slot c.args.number) c.self.inside.shelf.slots ≡ Some c.in-Some.place = sym c.place_of.ensures ∙ c.in-Some.is in
+    let place : position (is_slot c.args.number) c.self.inside.slab.slots ≡ Some c.in-Some.place = sym c.place_of.ensures ∙ c.in-Some.is in
     ap (λ k. shown c.stage.new.self.slots k c.self.inside.last c.stage.new.self.spare) c.note.ensures
-    ∙ ap (λ (h : SlabShown). shown h.slots (noted c.in-Some.place (chunk_in (slice_get h.slots c.in-Some.place)) c.self.inside.keys) c.self.inside.last h.spare) c.stage.ensures
-    ∙ put-shown c.self.inside.shelf.slots c.self.inside.shelf.cap c.self.inside.keys c.self.inside.last c.self.invariant c.args.number c.in-Some.place place (staged c.args.stage) (λ d. refl) (λ d. refl) c.self.inside.shelf.spare
+    ∙ ap (λ (h : SlabShown). shown h.slots (noted c.in-Some.place (chunk_in (slice_get h.slots c.in-Some.place)) c.self.inside.ready_index) c.self.inside.last h.spare) c.stage.ensures
+    ∙ put-shown c.self.inside.slab.slots c.self.inside.slab.cap c.self.inside.ready_index c.self.inside.last c.self.invariant c.args.number c.in-Some.place place (staged c.args.stage) (λ d. refl) (λ d. refl) c.self.inside.slab.spare
     ∙ ap (λ (h : Held). record h { chunks = changed (is_at c.args.number) (staged c.args.stage) h.chunks }) c.self.view_is

@@ -1,7 +1,8 @@
 use Rattle.std.proofs.Common.{◌≡◌, sym, ap, subst}
 use Rattle.fwd_model.specs.Outputs.{output_enters}
 use Rattle.fwd_core.specs.Lanes.{AreHeld}
-use Rattle.fwd_core.proofs.HeldLemmas.{held-enters, either_way}
+use Rattle.fwd_core.proofs.HeldLemmas.{held-enters}
+use Rattle.fwd_output.proofs.Basics.{either_way}
 use Rattle.fwd_core.proofs.lane.Lane.admit.Goals as goal
 
 pub invariant_of-self : goal.invariant_of-self

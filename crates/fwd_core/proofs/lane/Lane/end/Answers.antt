@@ -8,7 +8,8 @@ use Rattle.fwd_model.specs.Layers.{Worker}
 use Rattle.fwd_model.specs.Outputs.{numbers_back, output_ends, returned}
 use Rattle.fwd_model.specs.Step as steps
 use Rattle.fwd_model.specs.Live.{LiveLane, lives}
-use Rattle.fwd_core.specs.Lanes.{AreHeld, AreHere, chunks_at, no_work}
+use Rattle.fwd_core.specs.Lanes.{AreHeld, chunks_at, no_work}
+use Rattle.fwd_output.specs.HandedBack.{AreHere}
 use Rattle.fwd_core.proofs.LaneLemmas.{read_same, all_given, end_is}
 use Rattle.fwd_core.proofs.HeldLemmas.{held-ends, held-here}
 use Rattle.fwd_core.proofs.lane.Lane.end.Goals as goal

@@ -3,7 +3,7 @@ use Rattle.std.specs.Prelude.{Contains}
 use Rattle.fwd_model.specs.Outputs.{no_requests}
 use Rattle.fwd_core.specs.Lanes.{AreHeld, no_work, new_live_lane}
 use Rattle.fwd_core.proofs.HeldLemmas.{held-idle}
-use Rattle.fwd_core.proofs.OpeningLemmas.{has-false}
+use Rattle.fwd_output.proofs.Basics.{has-false}
 use Rattle.fwd_core.proofs.lane.Lane.new.Goals as goal
 
 pub invariant_of-result : goal.invariant_of-result

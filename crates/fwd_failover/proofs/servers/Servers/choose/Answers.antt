@@ -1,6 +1,6 @@
 use Rattle.std.proofs.Common.{rules, arith, ◌<◌, Option, subst, ◌≡◌, ℕ, ◌%◌, length, max, None, slice_index_or, sym, ap, ◌∙◌, vec_len}
 use Rattle.std.specs.Prelude.{IfSome}
-use Rattle.fwd_retry.specs.Tallies.{live_is_over}
+use Rattle.fwd_base.specs.Tallies.{live_is_over}
 use Rattle.fwd_failover.proofs.Rounds.{first_of_three}
 use Rattle.fwd_failover.proofs.Orders.{choice_within}
 use Rattle.fwd_failover.proofs.Histories.{looked_on, chosen_by}

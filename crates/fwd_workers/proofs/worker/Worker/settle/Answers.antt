@@ -6,7 +6,7 @@ use Rattle.fwd_workers.proofs.worker.Worker.settle.Goals as goal
 
 pub returns-in-Some-clause-lost : goal.returns-in-Some-clause-lost
 returns-in-Some-clause-lost g c none =
-    subst (λ at. HasLost at c.lose.new.self.news c.args.upstream.session c.args.context.now.now
+    subst (λ at. HasLost at c.lose.new.self.event c.args.upstream.session c.args.context.now.now
     (g.L.Link.calls c.args.upstream.link)) (sym c.lose.ensures.seeks) (
       c.serve-upstream.result.session,
       g.L.Link.calls c.serve-upstream.result.link,

@@ -1,6 +1,6 @@
 use Rattle.std.proofs.Common.{List, refl, subst}
 use Rattle.std.specs.Prelude.{is_some}
-use Rattle.fwd_workers.specs.Links.{Call}
+use Rattle.fwd_environment.specs.Links.{Call}
 use Rattle.fwd_workers.specs.Served.{IsOfLink, seen_in}
 use Rattle.fwd_workers.proofs.Leading.{up-upstream}
 use Rattle.fwd_workers.proofs.worker.Worker.stand.Goals as goal

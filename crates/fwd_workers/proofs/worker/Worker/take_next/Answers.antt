@@ -4,7 +4,7 @@ use Rattle.std.specs.Arc.{arc_value}
 use Rattle.fwd_handshake.specs.Draws.{hex_drawn}
 use Rattle.fwd_session.specs.History.{is_done}
 use Rattle.fwd_workers.specs.declared.ending.EndReason.{EndReason}
-use Rattle.fwd_workers.specs.declared.upstream.WorkerState.TheVariants as stage
+use Rattle.fwd_workers.specs.declared.upstream.WorkerState.TheVariants as state
 use Rattle.fwd_workers.specs.Endings.{idle_ending, news_of}
 use Rattle.fwd_workers.specs.Working.{HasTakenNext, IsTended, setup_by}
 use Rattle.fwd_workers.proofs.Taking.{by-ending, either, goes-on}
@@ -18,7 +18,7 @@ returns-then-is_some-clause-taken g c none =
     by-ending c.serve_free.result.upstream.ending
     (λ on.
     let same = c.allow_close-free.ensures.ending ∙ ap (option_map idle) on in
-    subst (λ at. HasTakenNext at c.stand.new.self.news c.args.free.upstream.session
+    subst (λ at. HasTakenNext at c.stand.new.self.event c.args.free.upstream.session
     c.args.context.now.now (g.H.Line.Link.calls c.args.free.upstream.link)
     (setup_by (arc_value c.args.self.now.login) (hex_drawn 0 4 c.args.self.now.rng)
     c.args.self.now.acks c.args.context.now.now))
@@ -31,11 +31,11 @@ returns-then-is_some-clause-taken g c none =
     c.allow_close-free.ensures.session c.allow_close-free.ensures.ending (ap is_some same)))
     (λ why over.
     let same = c.allow_close-free.ensures.ending ∙ ap (option_map idle) over in
-    let ends = subst (λ o. IfSome o (λ w. (c.stand.result ≡ stage.Idle)
-    × (c.stand.new.self.news
+    let ends = subst (λ o. IfSome o (λ w. (c.stand.result ≡ state.Idle)
+    × (c.stand.new.self.event
     ≡ news_of w c.allow_close-free.result.upstream.session.setup.server 0)))
     same c.stand.ensures.ends in
-    subst (λ at. HasTakenNext at c.stand.new.self.news c.args.free.upstream.session
+    subst (λ at. HasTakenNext at c.stand.new.self.event c.args.free.upstream.session
     c.args.context.now.now (g.H.Line.Link.calls c.args.free.upstream.link)
     (setup_by (arc_value c.args.self.now.login) (hex_drawn 0 4 c.args.self.now.rng)
     c.args.self.now.acks c.args.context.now.now))
@@ -70,15 +70,15 @@ returns-in_default-go_over-clause-taken g c none =
     (λ why. idle_ending why (is_done c.serve_free.result.upstream.session.handshake))
     (c.serve_free.ensures.turn none) c.allow_close-free.ensures.session
     c.allow_close-free.ensures.ending (sym c.is_some.ensures ∙ c.if-is_some.false) in
-    either (λ at. HasTakenNext at c.go_over.new.self.news c.args.free.upstream.session
+    either (λ at. HasTakenNext at c.go_over.new.self.event c.args.free.upstream.session
     c.args.context.now.now (g.H.Line.Link.calls c.args.free.upstream.link)
     (setup_by (arc_value c.args.self.now.login) (hex_drawn 0 4 c.args.self.now.rng)
     c.args.self.now.acks c.args.context.now.now))
     c.stay.result _ _ c.stay.ensures.stays on
     (on.0, sym c.is_ready.ensures ∙ c.if-not-is_ready.false, inl on.1)
 
-pub returns-then-outlook-clause-taken : goal.returns-then-outlook-clause-taken
-returns-then-outlook-clause-taken g c none =
+pub returns-then-server_view-clause-taken : goal.returns-then-server_view-clause-taken
+returns-then-server_view-clause-taken g c none =
     goes-on c.args.free.upstream.session c.serve_free.result.upstream.session
     c.allow_close-free.result.upstream.session c.args.context.now.now
     (g.H.Line.Link.calls c.args.free.upstream.link)

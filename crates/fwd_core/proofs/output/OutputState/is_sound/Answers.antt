@@ -1,6 +1,0 @@
-use Rattle.std.proofs.Common.{subst}
-use Rattle.fwd_core.specs.OutputEvents.{IsLiveOutput}
-use Rattle.fwd_core.proofs.output.OutputState.is_sound.Goals as goal
-
-pub returns-clause-reached : goal.returns-clause-reached
-returns-clause-reached c = subst IsLiveOutput c.self.view_is c.self.invariant.1

@@ -1,8 +1,0 @@
-use Rattle.std.proofs.Common.{◌≡◌, take}
-use Rattle.std.specs.Prelude.{map}
-use Rattle.fwd_loop.specs.Pools.{hop_of}
-use Rattle.fwd_loop.proofs.relay_loop.next_hops_of.Given as goal
-
--- the next hops of the outputs so far
-abbrev pub invariant-loop-output : goal.invariant-loop-output
-invariant-loop-output l = l.all.items ≡ map hop_of (take l.output-index l.outputs)

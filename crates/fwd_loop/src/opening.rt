@@ -1,0 +1,217 @@
+//! What a relay has before its first turn, and how it is opened: the turns of its readers, and its
+//! workers beside them.
+
+use fwd_links::SharedFlags;
+use fwd_match::Routes;
+use fwd_monitors::{PageQueue, SharedTally, StartFault};
+use fwd_pools::{WorkerSurroundings, WorkerThread};
+use fwd_reader::{Output, ReaderInbox, ReaderInboxes};
+use fwd_turns::{EventQueue, FrontReader, ReaderParts, Surroundings, Turns, close_all};
+use std::alloc::{AllocFailed, Global};
+use std::net::Net;
+use std::rt::Clock;
+use std::sync::Wait;
+use std::time::Instant;
+
+/// What a relay's readers and workers share.
+pub(crate) struct Shared {
+    pub flags: SharedFlags,
+    pub routes: Routes,
+    pub outputs: Vec<Output>,
+    pub inboxes: ReaderInboxes,
+    pub journal_events: EventQueue,
+    pub tally: SharedTally,
+    pub pages: PageQueue,
+}
+
+// A drop of its own is proved once, and not at each place where a relay goes.
+impl Drop for Shared {
+    fn drop(self) {
+        let Shared {
+            flags: _,
+            routes: _,
+            outputs: _,
+            inboxes: _,
+            journal_events: _,
+            tally: _,
+            pages: _,
+        } = self;
+    }
+}
+
+/// What a relay has beside: what each reader has of its own, and the workers.
+pub(crate) struct Own {
+    /// The reader in front.
+    pub front: ReaderParts,
+    /// The others, in the order of their numbers.
+    pub others: Vec<ReaderParts>,
+    pub workers: Vec<WorkerThread>,
+}
+
+// A drop of its own is proved once, and not at each place where a relay goes.
+impl Drop for Own {
+    fn drop(self) {
+        let Own {
+            front: _,
+            others: _,
+            workers: _,
+        } = self;
+    }
+}
+
+/// A worker of a relay, which works beside the relay's turns, in a thread of its own.
+#[derive(Drop)]
+pub struct WorkerTurns<'a> {
+    thread: &'a mut WorkerThread,
+    around: WorkerSurroundings<'a>,
+}
+
+impl<'a> WorkerTurns<'a> {
+    /// Works for its output in so many turns, or until all workers are to end.
+    pub fn work<R: Net + Wait + Clock + AllocGlobal>(self, rt: &R, turns: u64) {
+        let WorkerTurns { thread, around } = self;
+        thread.work(rt, around, turns);
+    }
+}
+
+/// The workers of a relay.
+fn workers_of<'a>(
+    alloc: Global,
+    shared: &'a Shared,
+    threads: &'a mut [WorkerThread],
+    start: Option<Instant>,
+) -> Result<Vec<WorkerTurns<'a>>, StartFault> {
+    let around = WorkerSurroundings {
+        flags: &shared.flags,
+        outputs: &shared.outputs,
+        inboxes: &shared.inboxes,
+        start,
+    };
+    let mut workers = Vec::with_capacity(alloc, threads.len())?;
+    for thread in threads {
+        workers.push(WorkerTurns { thread, around })?;
+    }
+    Ok(workers)
+}
+
+/// A place of a reader: its number, its inbox, when the relay started, and what it does beside if
+/// it is in front.
+#[derive(Drop)]
+struct ReaderPlace<'a> {
+    number: usize,
+    inbox: &'a ReaderInbox,
+    start: Option<Instant>,
+    front: Option<FrontReader<'a>>,
+}
+
+/// The turns of a relay's reader, which has these parts. The only error is out of memory.
+fn turns_of<'a, R: Wait + Clock>(
+    rt: &'a R,
+    alloc: Global,
+    shared: &'a Shared,
+    place: ReaderPlace<'a>,
+    parts: &'a mut ReaderParts,
+) -> Result<Turns<'a, R>, StartFault> {
+    let ReaderPlace {
+        number,
+        inbox,
+        start,
+        front,
+    } = place;
+    let around = Surroundings {
+        alloc,
+        routes: &shared.routes,
+        outputs: &shared.outputs,
+        tally: &shared.tally,
+        inboxes: &shared.inboxes,
+        inbox,
+        number,
+        start,
+    };
+    Turns::new(rt, around, parts, &shared.journal_events, front)
+}
+
+/// The turns of the reader in front of a relay. The only error is out of memory.
+fn front_of<'a, R: Wait + Clock>(
+    rt: &'a R,
+    alloc: Global,
+    shared: &'a Shared,
+    parts: &'a mut ReaderParts,
+    start: Option<Instant>,
+) -> Result<Turns<'a, R>, StartFault> {
+    let place = ReaderPlace {
+        number: 0,
+        inbox: &shared.inboxes.front,
+        start,
+        front: Some(FrontReader::new(alloc, &shared.outputs, &shared.pages)?),
+    };
+    turns_of(rt, alloc, shared, place, parts)
+}
+
+/// The turns of the readers of a relay that are not in front. The only error is out of memory.
+fn others_of<'a, R: Wait + Clock>(
+    rt: &'a R,
+    alloc: Global,
+    shared: &'a Shared,
+    others: &'a mut [ReaderParts],
+    start: Option<Instant>,
+) -> Result<Vec<Turns<'a, R>>, StartFault> {
+    let mut readers = Vec::new(alloc);
+    for ((number, inbox), parts) in (1..usize::MAX).zip(&shared.inboxes.others).zip(others) {
+        let place = ReaderPlace {
+            number,
+            inbox,
+            start,
+            front: None,
+        };
+        let turns = match turns_of(rt, alloc, shared, place, parts) {
+            Ok(turns) => turns,
+            Err(fault) => {
+                close_all(rt, readers);
+                return Err(fault);
+            }
+        };
+        if let Err(AllocFailed { value }) = readers.push(turns) {
+            value.close(rt);
+            close_all(rt, readers);
+            return Err(StartFault::Memory);
+        }
+    }
+    Ok(readers)
+}
+
+/// A relay that is open: the turns of its readers, and its workers.
+pub struct Opened<'a, R: Clock> {
+    /// Those of the reader in front.
+    pub turns: Turns<'a, R>,
+    pub others: Vec<Turns<'a, R>>,
+    pub workers: Vec<WorkerTurns<'a>>,
+}
+
+/// Opens a relay of these parts. The only error is out of memory.
+pub(crate) fn open<'a, R: Wait + Clock>(
+    rt: &'a R,
+    alloc: Global,
+    shared: &'a Shared,
+    own: &'a mut Own,
+) -> Result<Opened<'a, R>, StartFault> {
+    let Own {
+        front,
+        others,
+        workers: threads,
+    } = own;
+    let start = Instant::now(rt).ok();
+    let workers = workers_of(alloc, shared, threads, start)?;
+    let others = others_of(rt, alloc, shared, others, start)?;
+    match front_of(rt, alloc, shared, front, start) {
+        Ok(turns) => Ok(Opened {
+            turns,
+            others,
+            workers,
+        }),
+        Err(fault) => {
+            close_all(rt, others);
+            Err(fault)
+        }
+    }
+}

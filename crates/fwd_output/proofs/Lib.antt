@@ -1,0 +1,10 @@
+pub mod Basics
+pub mod ChunkLemmas
+pub mod CouplingLemmas
+pub mod CarriedLemmas
+pub mod HandingBack
+pub mod OutputLemmas
+pub mod HandingOut
+pub mod Counting
+pub mod Returning
+pub mod Settling

@@ -1,0 +1,13 @@
+use Rattle.std.proofs.Common.{sym, ap, subst}
+use Rattle.fwd_book.specs.History.{is_among}
+use Rattle.fwd_book.specs.Live.{BookState}
+use Rattle.fwd_output.proofs.CouplingLemmas.{drops-coupled}
+use Rattle.fwd_output.proofs.OutputLemmas.{Holds, forgotten}
+use Rattle.fwd_output.proofs.output.OutputState.forget.Goals as goal
+
+pub invariant_of-self : goal.invariant_of-self
+invariant_of-self c =
+    let o = c.self.inside in
+    let own = c.self.invariant in
+    subst (λ k. Holds o.buffer k o.servers) (sym (ap (λ (k : BookState). k.live) c.forget.ensures.left))
+    (drops-coupled o.buffer o.book.live (λ q. is_among c.args.origins.now q.origin) own.0, forgotten (record { buffer = o.buffer; book = o.book.live; servers = o.servers }) c.args.origins.now own.1)

@@ -1,0 +1,28 @@
+//! An output under its lock, which threads share: its chunks, the requests whose entries they have,
+//! its servers, and the tickets and counters that its calls hand out and raise.
+#![tactic(auto)]
+
+mod chunk_starts;
+mod collecting;
+mod leaving;
+mod locked;
+mod lost_at;
+mod output;
+mod server_order;
+mod server_set;
+mod server_view;
+mod shared;
+mod tally;
+mod ticket;
+
+pub use fwd_book::AdmitRefusal;
+pub use fwd_model::EndKind;
+pub use leaving::{Leaving, leave};
+pub use locked::{Closing, Locked};
+pub use output::OutputState;
+pub use server_order::ServerOrder;
+pub use server_set::ServerSet;
+pub use server_view::{PickedChunk, ServerView};
+pub use shared::SharedOutput;
+pub use tally::{Ledgered, Plain, Seat, Tally, open};
+pub use ticket::{Admitted, Ticket};

@@ -1,0 +1,588 @@
+//! What stands under an output's lock: the output, and how many entries it accepted and settled.
+
+ghost use Rattle.std.specs.Prelude.{
+  ◌≡◌,
+  ◌≤◌,
+  ◌+◌,
+  ◌++◌,
+  ℕ,
+  List,
+  Err,
+  None,
+  [],
+  ◌∷◌,
+  length,
+  map,
+  max,
+  All,
+  option_map,
+  option_to_list,
+  IfOk,
+  IfErr,
+  IfSome,
+  IsOk,
+  OnOk,
+  OnErr,
+};
+ghost use Rattle.std.specs.Arc.{arc_value};
+ghost use Rattle.std.specs.List.Sorted.{IsPermutation};
+ghost use Rattle.fwd_chunks.specs.Live.{
+  IsCarried,
+  live_closing,
+  live_counts,
+  live_flushes,
+  live_given,
+  live_carried_chunk,
+  live_looks,
+  live_losses,
+  live_takes,
+};
+ghost use Rattle.fwd_chunks.specs.Soundness.{IsSound};
+ghost use Rattle.fwd_chunks.specs.TagCounts.{AddsUp, IsSnapshot, live_report};
+ghost use Rattle.fwd_failover.specs.Doubts.{live_is_doubted, live_trusted};
+ghost use Rattle.fwd_session.specs.ServerAcks.{IsServerAck};
+ghost use Rattle.fwd_book.specs.Live.{IsSound as IsSoundBook, live_leaves};
+ghost use Rattle.fwd_model.specs.Outputs.{
+  live_count_at,
+  live_loses,
+  output_choice,
+  output_ends,
+  output_looks,
+  output_settles,
+  returned,
+};
+ghost use Rattle.fwd_output.specs.HandedBack.{AreHere, IsHandedBack, kept_back, lost_back};
+ghost use Rattle.fwd_output.specs.OutputEvents.{IsLiveOutput};
+ghost use Rattle.fwd_output.specs.Seats.{parts_of, counts_of};
+ghost use Rattle.fwd_output.specs.Tickets.{
+  Ticket as AbstractTicket,
+  AreGiven,
+  IsShown,
+  IsRight,
+  refusal_at,
+  ticket_for,
+  ticket_of,
+};
+ghost use Rattle.fwd_output.specs.Turns.{
+  AreCollected,
+  origins_of,
+  receipts_for,
+  is_claimed_at,
+  locked_admits,
+  locked_claims,
+  locked_with,
+  locked_releases,
+  locked_settles,
+  locked_tells,
+};
+
+use crate::chunk_starts::ChunkStarts;
+use crate::collecting::{hand_out, receipts_of, shows};
+use crate::lost_at::LostAt;
+use crate::output::OutputState;
+use crate::server_order::ServerOrder;
+use crate::server_set::ServerSet;
+use crate::server_view::{PickedChunk, ServerView};
+use crate::tally::{Ledgered, Seat, Tally};
+use crate::ticket::Ticket;
+use fwd_book::{AdmitRefusal, Receipt};
+use fwd_chunks::{Carried, Counts, FlushKind, Report, Snapshot, tags_add_up};
+use fwd_modes::{Batch, Origin};
+use fwd_session::Acked;
+use std::alloc::{AllocError, Global};
+use std::marker::Model;
+use std::sync::Arc;
+use std::sync::ledger::Ledger;
+
+/// How long a claim on free chunks stands, in milliseconds. Who claims them looks again far sooner.
+const CLAIM: u64 = 100;
+
+/// An output with the counters of the entries that it accepted and settled, which are always what
+/// the output says.
+#[derive(Drop)]
+pub struct Locked<A: Tally, S: Tally> {
+    state: OutputState,
+    accepted: A,
+    settled: S,
+    /// The moment (milliseconds) up to which free chunks are left to a worker that claims them.
+    claimed: u64,
+    /// When the chunks were begun that are not settled. Where memory is refused for a chunk it does
+    /// not stand there.
+    begun: ChunkStarts,
+    /// Where the chunks were lost that are not settled, the first ones of their sessions.
+    lost_at: LostAt,
+    /// The output's servers, where they are known. Where they are not, a chunk that was lost goes
+    /// where any chunk goes.
+    order: Option<ServerOrder>,
+}
+
+impl<A: Tally, S: Tally> Model for Locked<A, S> {
+    ghost use Rattle.std.specs.Prelude.{◌≡◌};
+    ghost use Rattle.fwd_output.specs.Turns.{LockedState};
+
+    ghost Value = { LockedState };
+
+    ghost view = { λ s. record {
+      output = s.state;
+      accepted = A.total s.accepted;
+      settled = S.total s.settled;
+      claimed = s.claimed;
+    } };
+
+    ghost invariant = { λ s. (A.total s.accepted ≡ s.state.buffer.accepted)
+        × (S.total s.settled ≡ s.state.buffer.settled) };
+}
+
+impl<A: Tally, S: Tally> Locked<A, S> {
+    /// An output and its counters.
+    pub fn new(alloc: Global, state: OutputState, accepted: A, settled: S) -> Self
+        requires accepted { A.total accepted ≡ state.buffer.accepted }
+        requires settled { S.total settled ≡ state.buffer.settled }
+        ensures { result ≡ record {
+          output = state;
+          accepted = A.total accepted;
+          settled = S.total settled;
+          claimed = 0;
+        } }
+    {
+        Locked {
+            state,
+            accepted,
+            settled,
+            claimed: 0,
+            begun: ChunkStarts::new(alloc),
+            lost_at: LostAt::new(alloc),
+            order: None,
+        }
+    }
+
+    /// The same, with its servers: a chunk that was lost at one of them goes to another.
+    pub fn with_order(self, order: ServerOrder) -> Self
+        ensures { result ≡ self }
+    {
+        let mut locked = self;
+        locked.order = Some(order);
+        locked
+    }
+
+    /// What is true of every output, among it that it is the live part of a history that a run of
+    /// its own events reaches; and that its counters' totals are what it accepted and settled.
+    pub fn is_sound(&self)
+        ensures chunks { IsSound self.now.output.buffer }
+        ensures requests { IsSoundBook self.now.output.book }
+        ensures reached { IsLiveOutput self.now.output }
+        ensures accepted { self.now.accepted ≡ self.now.output.buffer.accepted }
+        ensures settled { self.now.settled ≡ self.now.output.buffer.settled }
+    {
+        self.state.is_sound(); // for the proof
+    }
+
+    /// The entries accepted, settled and held, with the bytes held and the chunks that hold them.
+    pub fn counts(&self) -> Counts
+        ensures counts { result ≡ live_counts self.now.output.buffer }
+        ensures sum { result.accepted ≡ result.settled + result.held }
+    {
+        self.state.is_sound(); // for the proof
+        self.state.counts()
+    }
+
+    /// The same, and what is held of each tag, the tags in no order: made quickly, while others
+    /// wait for the lock. The only error is out of memory.
+    pub fn snapshot(&self, alloc: Global) -> Result<Snapshot, AllocError>
+        ensures snapshot { IfOk result (λ snapshot.
+            IsSnapshot self.now.output.buffer snapshot) }
+        ensures sound { IsSound self.now.output.buffer }
+    {
+        self.state.is_sound(); // for the proof
+        self.state.snapshot(alloc)
+    }
+
+    /// The same with the tags by rising bytes. The only error is out of memory.
+    pub fn report(&self, alloc: Global) -> Result<Report, AllocError>
+        ensures report { IfOk result (λ report.
+            report ≡ live_report self.now.output.buffer) }
+        ensures adds_up { IfOk result (λ report. AddsUp report) }
+    {
+        tags_add_up(); // for the proof
+        self.state.is_sound(); // for the proof
+        self.state.report(alloc)
+    }
+
+    /// When the oldest chunk was begun that is not settled, in milliseconds, if there is one.
+    pub fn oldest(&self) -> Option<u64> {
+        self.begun.oldest()
+    }
+
+    /// Admits a connection's request at a moment (milliseconds), and gives a ticket for it. It is
+    /// refused as `NotNow` where the output owes an answer to a request of this connection and
+    /// number, then as `Full` where the bytes held would be more than the total limit, then as
+    /// `NumbersSpent`. On an error nothing has changed, and the request comes back.
+    pub fn admit(
+        &mut self,
+        alloc: Global,
+        seat: &mut A::Seat,
+        origin: Origin,
+        batch: Batch,
+        now: u64,
+    ) -> Result<Ticket, (AdmitRefusal, Batch)>
+        ensures refused { IfSome (refusal_at self.old.output origin batch now) (λ why.
+            result ≡ Err (why, batch)) }
+        ensures ticket { IfOk result (λ t. t ≡ ticket_for self.old.output origin batch now) }
+        ensures ok { OnOk result (self.new ≡ locked_admits self.old origin batch now) }
+        ensures memory { refusal_at self.old.output origin batch now ≡ None
+            → IfErr result (λ e. e.0 ≡ AdmitRefusal.Memory) }
+        ensures back { IfErr result (λ e. e.1 ≡ batch) }
+        ensures err { OnErr result (self.new ≡ self.old) }
+        ensures counted { OnOk result (A.count seat.new
+            ≡ A.count seat.old + A.kept (length batch.entries)) }
+        ensures same { OnErr result (A.count seat.new ≡ A.count seat.old) }
+        ensures parts { A.parts seat.new ≡ A.parts seat.old }
+    {
+        if self.state.holds(origin) {
+            return Err((AdmitRefusal::NotNow, batch));
+        }
+        let admitted = match self.state.admit(alloc, origin, &batch, now) {
+            Ok(admitted) => admitted,
+            Err(error) => return Err((AdmitRefusal::from(error), batch)),
+        };
+        self.state.is_sound(); // for the proof
+        self.accepted.add(seat, batch.len() as u64);
+        let _ = self.begun.enter(admitted.spans.as_slice(), now);
+        let (run, output) = (self.state.run(), self.state.output());
+        Ok(Ticket::new(run, output, origin, batch, admitted))
+    }
+
+    /// Receipts for the tickets whose entries are all acknowledged, and the other tickets, in their
+    /// order. Of two tickets of one request the second comes back, and so does the ticket of
+    /// another output. It costs what is handed in, and no more: who holds many tickets learns from
+    /// `counts` whether anything was settled since, and need not hand them in where nothing was.
+    /// The only error is out of memory; then nothing has changed, and all tickets come back.
+    pub fn collect(
+        &mut self,
+        alloc: Global,
+        tickets: Vec<Ticket>,
+    ) -> Result<(Vec<Receipt>, Vec<Ticket>), (AllocError, Vec<Ticket>)>
+        ensures collected { IfOk result (λ p. (told : List AbstractTicket)
+            × AreCollected self.old.output.book [] tickets.items told p.1.items
+            × (p.0.items ≡ receipts_for self.old.output.book told)
+            × (self.new ≡ locked_tells self.old (origins_of told))) }
+        ensures each { IfOk result (λ p. IsPermutation tickets.items
+            (map (ticket_of self.old.output.book.setting) p.0.items ++ p.1.items)) }
+        ensures right { IfOk result (λ p. All (λ r.
+            IsRight r (ticket_of self.old.output.book.setting r)) p.0.items) }
+        // They are what this output gives at that point of a history of its own events.
+        ensures history { IfOk result (λ p.
+            AreGiven self.old.output.book.setting p.0.items) }
+        ensures back { IfErr result (λ e. e.1.items ≡ tickets.items) }
+        ensures err { OnErr result (self.new ≡ self.old) }
+    {
+        self.state.is_sound(); // for the proof
+        let Ok(due) = receipts_of(&self.state, alloc, &tickets) else {
+            return Err((AllocError, tickets));
+        };
+        let Ok(receipts) = Vec::with_capacity(alloc, tickets.len()) else {
+            return Err((AllocError, tickets));
+        };
+        let Ok(back) = Vec::with_capacity(alloc, tickets.len()) else {
+            return Err((AllocError, tickets));
+        };
+        Ok(hand_out(&mut self.state, tickets, due, receipts, back))
+    }
+
+    /// Nobody is to be told of the ticket's request any more: it leaves, and its entries stay. The
+    /// ticket of a request that the output does not owe an answer to is only spent.
+    pub fn abandon(&mut self, ticket: Ticket)
+        ensures shown { IsShown self.old.output.book ticket
+            → self.new ≡ locked_tells self.old (ticket.origin ∷ []) }
+        ensures other { ¬ (IsShown self.old.output.book ticket) → self.new ≡ self.old }
+    {
+        if shows(&self.state, &ticket) {
+            self.state.forget(&[ticket.origin()]);
+        }
+        ticket.spend();
+    }
+
+    /// A worker claims the next free chunk from a moment on (milliseconds), for a while. Its
+    /// session was sought for a chunk that was lost, which else any worker would take, at the very
+    /// moment at which the server that lost it is tried again.
+    pub(crate) fn claim(&mut self, now: u64)
+        ensures { self.new ≡ locked_claims self.old now }
+    {
+        self.claimed = now.saturating_add(CLAIM);
+    }
+
+    /// A worker that claimed a free chunk took one.
+    pub(crate) fn release(&mut self)
+        ensures { self.new ≡ locked_releases self.old }
+    {
+        self.claimed = 0;
+    }
+
+    /// Whether free chunks are left to a worker that claims them, at a moment (milliseconds).
+    pub(crate) fn is_claimed(&self, now: u64) -> bool
+        ensures { result ≡ is_claimed_at self.now now }
+    {
+        now < self.claimed
+    }
+
+    /// Closes the open chunks that a flush closes at a moment (milliseconds), and answers how many.
+    pub fn flush(&mut self, now: u64, kind: FlushKind) -> usize
+        ensures count { result ≡ length (live_closing self.old.output.buffer now kind) }
+        ensures flushed { self.new ≡ locked_with self.old (record (self.old.output) {
+          buffer = live_flushes self.old.output.buffer now kind;
+        }) }
+    {
+        self.state.flush(now, kind)
+    }
+
+    /// The server that a worker tries at a moment (milliseconds), if one is usable.
+    pub fn choose(&mut self, worker: u16, now: u64) -> Option<u16>
+        ensures choice { result ≡ output_choice self.old.output worker now }
+        ensures looked { self.new ≡ locked_with self.old (output_looks self.old.output now) }
+    {
+        self.state.choose(worker, now)
+    }
+
+    /// Gives a worker the free chunk of the least number at a moment (milliseconds), if there is
+    /// one. On an error, out of memory, nothing has changed.
+    pub fn take(
+        &mut self,
+        alloc: Global,
+        seat: &mut S::Seat,
+        worker: u16,
+        now: u64,
+    ) -> Result<Option<Carried>, AllocError>
+        ensures given { IfOk result (λ carried. carried ≡ option_map
+            (live_carried_chunk self.old.output.buffer)
+            (live_given (live_looks self.old.output.buffer now))) }
+        ensures ok { OnOk result (self.new ≡ locked_with self.old (record (self.old.output) {
+          buffer = live_takes self.old.output.buffer worker now;
+        })) }
+        ensures err { OnErr result (self.new ≡ self.old) }
+
+        // Where none is free, no memory is taken.
+        ensures none { live_given (live_looks self.old.output.buffer now) ≡ None
+            → IsOk result }
+        ensures same { seat.new ≡ seat.old }
+    {
+        let _ = seat;
+        self.state.take(alloc, worker, now)
+    }
+
+    /// The same, with how often the chunk was lost before.
+    pub fn pick(
+        &mut self,
+        alloc: Global,
+        seat: &mut S::Seat,
+        worker: u16,
+        now: u64,
+    ) -> Result<Option<PickedChunk>, AllocError>
+        ensures given { IfOk result (λ picked. option_map (λ p. p.chunk) picked ≡ option_map
+            (live_carried_chunk self.old.output.buffer)
+            (live_given (live_looks self.old.output.buffer now))) }
+        ensures losses { IfOk result (λ picked. IfSome picked (λ p.
+            p.losses ≡ live_losses self.new.output.buffer p.chunk.number)) }
+        ensures ok { OnOk result (self.new ≡ locked_with self.old (record (self.old.output) {
+          buffer = live_takes self.old.output.buffer worker now;
+        })) }
+        ensures err { OnErr result (self.new ≡ self.old) }
+        ensures same { seat.new ≡ seat.old }
+    {
+        match self.take(alloc, seat, worker, now)? {
+            None => Ok(None),
+            Some(chunk) => {
+                let losses = self.state.losses(&chunk);
+                let (lost_at, elsewhere) = self.way_of(chunk.number(), worker, now);
+                Ok(Some(PickedChunk {
+                    chunk,
+                    losses,
+                    lost_at,
+                    elsewhere,
+                }))
+            }
+        }
+    }
+
+    /// Where a chunk was lost, and the server elsewhere for it at a moment (milliseconds), if it
+    /// was lost and there is one.
+    fn way_of(&self, chunk: u64, worker: u16, now: u64) -> (ServerSet, Option<u16>) {
+        match (self.lost_at.of(chunk), &self.order) {
+            (Some(lost_at), Some(order)) => (lost_at, order.elsewhere(worker, &lost_at, now)),
+            _ => (ServerSet::none(), None),
+        }
+    }
+
+    /// A server could not be had for a chunk. If that was lost before, it counts as lost there too.
+    pub(crate) fn miss(&mut self, chunk: u64, server: u16)
+        ensures { self.new ≡ self.old }
+    {
+        self.lost_at.miss(chunk, server);
+    }
+
+    /// A server may be lost at a moment (milliseconds), with a chunk that was taken for it, and
+    /// with those that it owed an acknowledgement, of which the first counts: the others were lost
+    /// with that one, since a server takes them in their order.
+    fn note_lost(
+        &mut self,
+        server: Option<u16>,
+        taken: &Option<Carried>,
+        loaded: &[Carried],
+        now: u64,
+    )
+        ensures { self.new ≡ self.old }
+    {
+        let (Some(order), Some(server)) = (&mut self.order, server) else {
+            return;
+        };
+        order.lost(server, now);
+        if order.is_single() {
+            return;
+        }
+        if let Some(chunk) = taken {
+            self.lost_at.miss(chunk.number(), server);
+        }
+        if let Some(chunk) = loaded.first() {
+            self.lost_at.lose(chunk.number(), server);
+        }
+    }
+
+    /// A server settled so many entries of a chunk: all that it has, or none, where it is not the
+    /// output's.
+    fn note_settled(&mut self, server: u16, chunk: u64, entries: u64)
+        ensures { self.new ≡ self.old }
+    {
+        if entries == 0 {
+            return;
+        }
+        self.lost_at.settle(chunk);
+        if let Some(order) = &mut self.order {
+            order.settled(server);
+        }
+    }
+
+    /// What a worker sees at a moment (milliseconds) before it takes a chunk.
+    pub fn server_view(&mut self, worker: u16, now: u64) -> ServerView
+        ensures server { result.server ≡ output_choice self.old.output worker now }
+        ensures doubted { IfSome result.server (λ server.
+            result.is_doubted ≡ live_is_doubted self.new.output.servers server) }
+        ensures trusted { result.trusted ≡ live_trusted self.new.output.servers worker }
+        ensures claimed { result.is_claimed ≡ is_claimed_at self.old now }
+        ensures looked { self.new ≡ locked_with self.old (output_looks self.old.output now) }
+    {
+        let server = self.state.choose(worker, now);
+        let is_doubted = match server {
+            None => false,
+            Some(server) => self.state.is_doubted(server),
+        };
+        ServerView {
+            is_claimed: self.is_claimed(now),
+            server,
+            is_doubted,
+            trusted: self.state.trusted(worker),
+        }
+    }
+
+    /// Whether a server was lost since it last settled a chunk, so that it is not known to work.
+    pub fn is_doubted(&self, server: u16) -> bool
+        ensures { result ≡ live_is_doubted self.now.output.servers server }
+    {
+        self.state.is_doubted(server)
+    }
+
+    /// A server acknowledged the chunk: its entries are settled, and answered is how many they are.
+    /// A chunk that no worker has from this output changes nothing, and counts 0; no more is
+    /// counted than the chunk's own entries.
+    pub fn settle(&mut self, seat: &mut S::Seat, acked: Arc<Acked>, carried: Carried) -> u64
+        requires { IsServerAck (arc_value acked) carried }
+        ensures here { IsCarried self.old.output.buffer carried → self.new
+            ≡ locked_settles self.old (output_settles self.old.output (arc_value acked)) result }
+        ensures count { IsCarried self.old.output.buffer carried
+            → result ≡ live_count_at carried.number self.old.output }
+        ensures elsewhere { ¬ (IsCarried self.old.output.buffer carried)
+            → (self.new ≡ self.old) × (result ≡ 0) }
+        ensures most { result ≤ length carried.entries }
+        ensures counted { S.count seat.new ≡ S.count seat.old + S.kept result }
+        ensures parts { S.parts seat.new ≡ S.parts seat.old }
+    {
+        self.state.is_sound(); // for the proof
+        let number = carried.number();
+        let server = acked.server();
+        let count = self.state.settle(acked, carried) as u64;
+        self.state.is_sound(); // for the proof
+        self.settled.add(seat, count);
+        self.begun.settle(number, count);
+        self.note_settled(server, number, count);
+        count
+    }
+
+    /// A worker's end at a moment (milliseconds): the chunk that it took and did not load is given
+    /// back without a loss, and those that it loaded with a loss each, in their order; and a server
+    /// may be lost. A chunk that no worker has from this output is only spent.
+    pub fn end(
+        &mut self,
+        seat: &mut S::Seat,
+        taken: Option<Carried>,
+        loaded: Vec<Carried>,
+        server: Option<u16>,
+        now: u64,
+    )
+        ensures here { AreHere self.old.output.buffer (option_to_list taken ++ loaded.items)
+            → self.new ≡ locked_with self.old
+            (output_ends self.old.output (returned taken loaded.items) server now) }
+        ensures each { IsHandedBack (live_looks self.old.output.buffer now)
+            (map kept_back (option_to_list taken) ++ map lost_back loaded.items) now
+            self.new.output.buffer }
+        ensures rest { self.new ≡ locked_with self.old (record (self.old.output) {
+          buffer = self.new.output.buffer;
+          servers = live_loses self.old.output.servers server
+              (max self.old.output.buffer.moment now);
+        }) }
+        ensures same { seat.new ≡ seat.old }
+    {
+        let _ = seat;
+        self.note_lost(server, &taken, &loaded, now);
+        self.state.end(taken, loaded, server, now);
+    }
+}
+
+/// What an output came to, in entries.
+#[derive(Clone, Copy)]
+pub struct Closing {
+    pub accepted: u64,
+    pub settled: u64,
+    /// Accepted, and not settled.
+    pub left: u64,
+}
+
+impl<L: Ledger, M: Ledger> Locked<Ledgered<L>, Ledgered<M>> {
+    /// With all seats handed in, what they added is what the output accepted and settled.
+    pub fn close(self, admit_seats: Vec<Seat<L>>, work_seats: Vec<Seat<M>>) -> Closing
+        requires admitting { parts_of admit_seats.items ≡ L.parts }
+        requires working { parts_of work_seats.items ≡ M.parts }
+        ensures accepted { result.accepted ≡ counts_of admit_seats.items }
+        ensures settled { result.settled ≡ counts_of work_seats.items }
+        ensures left { result.accepted ≡ result.settled + result.left }
+        ensures counts { let counts = live_counts self.output.buffer in
+            (result.accepted ≡ counts.accepted) × (result.settled ≡ counts.settled)
+            × (result.left ≡ counts.held) }
+    {
+        let Locked {
+            state,
+            accepted,
+            settled,
+            claimed: _,
+            begun: _,
+            lost_at: _,
+            order: _,
+        } = self;
+        state.is_sound(); // for the proof
+        accepted.audit(admit_seats);
+        settled.audit(work_seats);
+        let counts = state.counts();
+        Closing {
+            accepted: counts.accepted,
+            settled: counts.settled,
+            left: counts.held,
+        }
+    }
+}

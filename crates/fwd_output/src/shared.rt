@@ -1,0 +1,246 @@
+//! An output that threads share.
+
+ghost use Rattle.std.specs.Prelude.{
+  ◌≡◌,
+  ◌≤◌,
+  ◌+◌,
+  ◌++◌,
+  length,
+  map,
+  All,
+  IfOk,
+  IfErr,
+  OnOk,
+  OnErr,
+};
+ghost use Rattle.std.specs.Arc.{arc_value};
+ghost use Rattle.std.specs.List.Sorted.{IsPermutation};
+ghost use Rattle.fwd_chunks.specs.Live.{LiveBuffer};
+ghost use Rattle.fwd_chunks.specs.Soundness.{IsSound};
+ghost use Rattle.fwd_chunks.specs.TagCounts.{AddsUp, IsSnapshot, live_report};
+ghost use Rattle.fwd_session.specs.ServerAcks.{IsServerAck};
+ghost use Rattle.fwd_book.specs.History.{BookSetting};
+ghost use Rattle.fwd_output.specs.Seats.{parts_of, counts_of};
+ghost use Rattle.fwd_output.specs.Tickets.{AreGiven, IsRight, ticket_of};
+
+use crate::locked::{Closing, Locked};
+use crate::server_view::{PickedChunk, ServerView};
+use crate::tally::{Ledgered, Seat, Tally};
+use crate::ticket::Ticket;
+use fwd_book::{AdmitRefusal, Receipt};
+use fwd_chunks::{Carried, Counts, FlushKind, Report, Snapshot, tags_add_up};
+use fwd_modes::{Batch, Origin};
+use fwd_session::Acked;
+use std::alloc::{AllocError, Global};
+use std::sync::ledger::Ledger;
+use std::sync::{Arc, Mutex, Wait};
+
+/// An output under its lock. Each call takes the lock and makes the one call of its name on what
+/// stands under it: the lock is held for that call, and never while a link is read or written.
+#[derive(Drop)]
+pub struct SharedOutput<A: Tally, S: Tally> {
+    lock: Mutex<Locked<A, S>>,
+}
+
+impl<A: Tally, S: Tally> SharedOutput<A, S> {
+    /// An output that threads may share.
+    pub fn new(locked: Locked<A, S>) -> Self {
+        SharedOutput {
+            lock: Mutex::new(locked),
+        }
+    }
+
+    /// The entries accepted, settled and held, with the bytes held and the chunks that hold them.
+    pub fn counts<R: Wait>(&self, rt: &R) -> Counts
+        ensures { result.accepted ≡ result.settled + result.held }
+    {
+        self.lock.lock(rt).counts()
+    }
+
+    /// The same, and what is held of each tag, by rising bytes: the report of what lies under the
+    /// lock at one moment. The only error is out of memory. The lock is held while the tags are
+    /// written down, and free again while they are put in order.
+    pub fn report<R: Wait>(&self, rt: &R, alloc: Global) -> Result<Report, AllocError>
+        ensures report { IfOk result (λ report.
+            (b : LiveBuffer) × IsSound b × (report ≡ live_report b)) }
+        ensures adds_up { IfOk result (λ report. AddsUp report) }
+    {
+        tags_add_up(); // for the proof
+        let snapshot = self.snapshot(rt, alloc)?;
+        Ok(snapshot.report(alloc)?)
+    }
+
+    /// When the oldest chunk was begun that is not settled, in milliseconds, if there is one. That
+    /// it is that of what lies under the lock no clause can see: it is tested.
+    pub fn oldest<R: Wait>(&self, rt: &R) -> Option<u64> {
+        self.lock.lock(rt).oldest()
+    }
+
+    /// What the output has to do with, the tags in no order.
+    fn snapshot<R: Wait>(&self, rt: &R, alloc: Global) -> Result<Snapshot, AllocError>
+        ensures { IfOk result (λ snapshot.
+            (b : LiveBuffer) × IsSound b × IsSnapshot b snapshot) }
+    {
+        self.lock.lock(rt).snapshot(alloc)
+    }
+
+    /// Admits a connection's request at a moment (milliseconds), and gives a ticket for it. It is
+    /// refused as `NotNow`, `Full` or `NumbersSpent`, or when out of memory, and then comes back.
+    pub fn admit<R: Wait>(
+        &self,
+        rt: &R,
+        alloc: Global,
+        seat: &mut A::Seat,
+        origin: Origin,
+        batch: Batch,
+        now: u64,
+    ) -> Result<Ticket, (AdmitRefusal, Batch)>
+        ensures ticket { IfOk result (λ t. (t.origin ≡ origin) × (t.batch ≡ batch)) }
+        ensures back { IfErr result (λ e. e.1 ≡ batch) }
+        ensures counted { OnOk result (A.count seat.new
+            ≡ A.count seat.old + A.kept (length batch.entries)) }
+        ensures same { OnErr result (A.count seat.new ≡ A.count seat.old) }
+        ensures parts { A.parts seat.new ≡ A.parts seat.old }
+    {
+        self.lock.lock(rt).admit(alloc, seat, origin, batch, now)
+    }
+
+    /// Receipts for the tickets whose entries are all acknowledged, and the other tickets. It costs
+    /// what is handed in, and no more: who holds many tickets learns from `counts` whether anything
+    /// was settled since, and need not hand them in where nothing was. The only error is out of
+    /// memory, and then all tickets come back.
+    pub fn collect<R: Wait>(
+        &self,
+        rt: &R,
+        alloc: Global,
+        tickets: Vec<Ticket>,
+    ) -> Result<(Vec<Receipt>, Vec<Ticket>), (AllocError, Vec<Ticket>)>
+        ensures right { IfOk result (λ p. (setting : BookSetting)
+            × IsPermutation tickets.items (map (ticket_of setting) p.0.items ++ p.1.items)
+            × All (λ r. IsRight r (ticket_of setting r)) p.0.items) }
+        // There is such a history: a run of the output's own events reaches it, and at its end the
+        // output gives just these receipts.
+        ensures history { IfOk result (λ p. (setting : BookSetting)
+            × IsPermutation tickets.items (map (ticket_of setting) p.0.items ++ p.1.items)
+            × AreGiven setting p.0.items) }
+        ensures back { IfErr result (λ e. e.1.items ≡ tickets.items) }
+    {
+        self.lock.lock(rt).collect(alloc, tickets)
+    }
+
+    /// Nobody is to be told of the ticket's request any more; its entries stay.
+    pub fn abandon<R: Wait>(&self, rt: &R, ticket: Ticket) {
+        self.lock.lock(rt).abandon(ticket);
+    }
+
+    /// Closes the open chunks that a flush closes at a moment (milliseconds), and answers how many.
+    pub fn flush<R: Wait>(&self, rt: &R, now: u64, kind: FlushKind) -> usize {
+        self.lock.lock(rt).flush(now, kind)
+    }
+
+    /// The server that a worker tries at a moment (milliseconds), if one is usable.
+    pub fn choose<R: Wait>(&self, rt: &R, worker: u16, now: u64) -> Option<u16> {
+        self.lock.lock(rt).choose(worker, now)
+    }
+
+    /// Gives a worker the free chunk of the least number at a moment (milliseconds), if there is
+    /// one. The only error is out of memory.
+    pub fn take<R: Wait>(
+        &self,
+        rt: &R,
+        alloc: Global,
+        seat: &mut S::Seat,
+        worker: u16,
+        now: u64,
+    ) -> Result<Option<Carried>, AllocError>
+        ensures { seat.new ≡ seat.old }
+    {
+        self.lock.lock(rt).take(alloc, seat, worker, now)
+    }
+
+    /// The same, with how often the chunk was lost before.
+    pub fn pick<R: Wait>(
+        &self,
+        rt: &R,
+        alloc: Global,
+        seat: &mut S::Seat,
+        worker: u16,
+        now: u64,
+    ) -> Result<Option<PickedChunk>, AllocError>
+        ensures { seat.new ≡ seat.old }
+    {
+        self.lock.lock(rt).pick(alloc, seat, worker, now)
+    }
+
+    /// What a worker sees at a moment (milliseconds) before it takes a chunk.
+    pub fn server_view<R: Wait>(&self, rt: &R, worker: u16, now: u64) -> ServerView {
+        self.lock.lock(rt).server_view(worker, now)
+    }
+
+    /// Whether a server was lost since it last settled a chunk, so that it is not known to work.
+    pub fn is_doubted<R: Wait>(&self, rt: &R, server: u16) -> bool {
+        self.lock.lock(rt).is_doubted(server)
+    }
+
+    /// A worker claims the next free chunk from a moment on (milliseconds), for a while.
+    pub fn claim<R: Wait>(&self, rt: &R, now: u64) {
+        self.lock.lock(rt).claim(now);
+    }
+
+    /// A worker that claimed a free chunk took one.
+    pub fn release<R: Wait>(&self, rt: &R) {
+        self.lock.lock(rt).release();
+    }
+
+    /// A server could not be had for a chunk. If that was lost before, it counts as lost there too.
+    pub fn miss<R: Wait>(&self, rt: &R, chunk: u64, server: u16) {
+        self.lock.lock(rt).miss(chunk, server);
+    }
+
+    /// A server acknowledged the chunk: its entries are settled, and answered is how many they are.
+    /// A chunk that no worker has from this output counts 0, and no chunk more than its entries.
+    pub fn settle<R: Wait>(
+        &self,
+        rt: &R,
+        seat: &mut S::Seat,
+        acked: Arc<Acked>,
+        carried: Carried,
+    ) -> u64
+        requires { IsServerAck (arc_value acked) carried }
+        ensures most { result ≤ length carried.entries }
+        ensures counted { S.count seat.new ≡ S.count seat.old + S.kept result }
+        ensures parts { S.parts seat.new ≡ S.parts seat.old }
+    {
+        self.lock.lock(rt).settle(seat, acked, carried)
+    }
+
+    /// A worker's end at a moment (milliseconds): the chunk that it took and did not load is given
+    /// back without a loss, and those that it loaded with a loss each; and a server may be lost.
+    pub fn end<R: Wait>(
+        &self,
+        rt: &R,
+        seat: &mut S::Seat,
+        taken: Option<Carried>,
+        loaded: Vec<Carried>,
+        server: Option<u16>,
+        now: u64,
+    )
+        ensures { seat.new ≡ seat.old }
+    {
+        self.lock.lock(rt).end(seat, taken, loaded, server, now);
+    }
+}
+
+impl<L: Ledger, M: Ledger> SharedOutput<Ledgered<L>, Ledgered<M>> {
+    /// With all seats handed in, what they added is what the output accepted and settled.
+    pub fn close(self, admit_seats: Vec<Seat<L>>, work_seats: Vec<Seat<M>>) -> Closing
+        requires admitting { parts_of admit_seats.items ≡ L.parts }
+        requires working { parts_of work_seats.items ≡ M.parts }
+        ensures accepted { result.accepted ≡ counts_of admit_seats.items }
+        ensures settled { result.settled ≡ counts_of work_seats.items }
+        ensures left { result.accepted ≡ result.settled + result.left }
+    {
+        let SharedOutput { lock } = self;
+        lock.into_inner().close(admit_seats, work_seats)
+    }
+}

@@ -1,0 +1,10 @@
+use Rattle.std.specs.Prelude.{◌≡◌, length}
+use Rattle.fwd_pools.proofs.worker_pools.WorkerPools.add_workers.Given as goal
+
+-- the outputs stay, and there is what wakes each worker so far
+abbrev pub invariant-loop-number : goal.invariant-loop-number
+invariant-loop-number g l = record {
+  outputs : l.self.outputs ≡ l.fn.self.outputs;
+  intervals : l.self.intervals ≡ l.fn.self.intervals;
+  count : length l.wakers.items ≡ l.number;
+}

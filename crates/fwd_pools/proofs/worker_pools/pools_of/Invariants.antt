@@ -1,0 +1,18 @@
+use Rattle.std.specs.Prelude.{◌≡◌, ◌+◌, ◌++◌, length, map}
+use Rattle.std.specs.Vec.Iter.{into_iter_items, into_iter_len}
+use Rattle.fwd_config.specs.Configs.{parts_known}
+use Rattle.fwd_pools.specs.Pools.{all_made_of, shown}
+use Rattle.fwd_pools.proofs.worker_pools.pools_of.Given as goal
+
+abbrev pub decreases-loop-config : goal.decreases-loop-config
+decreases-loop-config g l = into_iter_len l.configs
+
+-- what is left has a next hop for each, and makes up for the outputs that are not there yet
+abbrev pub invariant-loop-config : goal.invariant-loop-config
+invariant-loop-config g l = record {
+  each : into_iter_len l.hops ≡ into_iter_len l.configs;
+  count : length l.pools.outputs.items + into_iter_len l.configs ≡ length l.fn.configs.items;
+  made : map shown l.pools.outputs.items
+      ++ all_made_of (map parts_known (into_iter_items l.configs)) (into_iter_items l.hops)
+      ≡ all_made_of (map parts_known l.fn.configs.items) l.fn.hops.items;
+}

@@ -1,0 +1,72 @@
+-- What the outputs of a relay are, as its settings say it.
+use Rattle.std.specs.Prelude.{ℕ, Bool, true, false, List, [], ◌∷◌, length, map}
+use Rattle.std.specs.declared.net.socket_addr.SocketAddr.{SocketAddr}
+use Rattle.fwd_settings.specs.declared.settings.OutputSettings.{OutputSettings}
+use Rattle.fwd_settings.specs.declared.settings.WhenFull.{WhenFull}
+use Rattle.fwd_settings.specs.declared.settings.WhenFull.TheVariants.{Close, Wait}
+use Rattle.fwd_config.specs.Configs.{OutputParts, parts_set}
+use Rattle.fwd_model.specs.declared.config.OutputConfig.{OutputConfig}
+use Rattle.fwd_model.specs.Outputs.{no_requests}
+use Rattle.fwd_output.specs.Turns.{LockedState}
+use Rattle.fwd_reader.specs.declared.output.Output.{Output}
+
+-- where an output's servers are reached, in their order, and whether sources wait where it is full
+pub record Hop : Type 0 where
+  pub servers : List SocketAddr
+  pub waits_when_full : Bool
+
+-- sources wait where an output is full
+abbrev pub does_wait : WhenFull → Bool
+does_wait Close = false
+does_wait Wait = true
+
+-- an output's next hop, as its settings say it
+abbrev pub hop_of : OutputSettings → Hop
+hop_of s = record {
+  servers = map (λ x. x.address) s.servers;
+  waits_when_full = does_wait s.full;
+}
+
+-- what is seen of an output beside its lock: its next hop, how many workers it has, and the most
+-- bytes of entries that it holds
+pub record OutputShown : Type 0 where
+  pub hop : Hop
+  pub workers : ℕ
+  pub total : ℕ
+
+-- an output
+abbrev pub shown : Output → OutputShown
+shown o = record {
+  hop = record { servers = o.servers.items; waits_when_full = o.waits_when_full };
+  workers = length o.wakers.items;
+  total = o.total;
+}
+
+-- what is made of a configuration and a next hop
+abbrev pub made_of : OutputParts → Hop → OutputShown
+made_of p hop = record { hop = hop; workers = p.workers; total = p.total }
+
+-- of each configuration with the next hop at its place
+abbrev pub all_made_of : List OutputParts → List Hop → List OutputShown
+all_made_of [] hops = []
+all_made_of (p ∷ ps) [] = []
+all_made_of (p ∷ ps) (hop ∷ hops) = made_of p hop ∷ all_made_of ps hops
+
+-- the output of these settings
+abbrev pub shown_by : OutputSettings → OutputShown
+shown_by s = made_of (parts_set s) (hop_of s)
+
+-- what lies under the lock of the output of this number in this run before any request: it keeps to
+-- the limits of its configuration, tries that one's servers by their waits, and nobody claims what
+-- is free
+abbrev pub locked_by : OutputConfig → (run : List ℕ) → (number : ℕ) → LockedState
+locked_by config run number = record {
+  output = no_requests (record { limits = config.limits; run = run; output = number }) (record {
+    standby = config.standby;
+    retry_wait = config.limits.retry_wait;
+    retry_max = config.limits.retry_max;
+  });
+  accepted = 0;
+  settled = 0;
+  claimed = 0;
+}

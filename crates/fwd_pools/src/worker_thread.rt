@@ -1,0 +1,263 @@
+//! A worker over TCP, in a thread of its own.
+
+ghost use Rattle.std.specs.Prelude.{◌≡◌, None, Some, IfSome, slice_get};
+
+use fwd_environment::{Denial, Gate, Pass, Place, Refused, WorkerEvent};
+use fwd_links::{
+    RefusedChunk, RunClock, SharedFlags, SharedWait, TcpHub, WaitMode, WorkerNotice, WorkerWait,
+    WorkerWaker,
+};
+use fwd_monitors::StartFault;
+use fwd_reader::{Output, ReaderInboxes};
+use fwd_workers::Worker;
+use std::alloc::Global;
+use std::net::Net;
+use std::rt::Clock;
+use std::sync::Wait;
+use std::time::Instant;
+
+/// How a worker is to look for its next chunk.
+#[derive(Clone, Copy)]
+enum Backoff {
+    /// At once: it had a chunk, and may find another.
+    AtOnce,
+    /// It found none when it looked at once, or was woken: soon.
+    Soon,
+    /// It has found none for so long (milliseconds).
+    Later(u64),
+}
+
+/// Lets a worker wait for chunks, and stops it where all are to end.
+#[derive(Drop)]
+struct WorkerGate<'a> {
+    flags: &'a SharedFlags,
+    /// Where it tells what it did: in front all, and to the other readers what they are to hear.
+    inboxes: &'a ReaderInboxes,
+    number: u16,
+    output: &'a Output,
+    wait: &'a SharedWait,
+    backoff: Backoff,
+    /// Why the server that is lost in this turn does not let it in, as that says.
+    denial: Option<Denial>,
+}
+
+impl<'a> WorkerGate<'a> {
+    /// The worker comes to a place, and waits there where it found no chunk before. Memory is made
+    /// sure of, where what it does next takes any.
+    fn come_to<R: Wait>(&mut self, rt: &R, place: Place) {
+        match place {
+            Place::BeforeTake => {
+                self.look(rt);
+                self.assure(rt, place);
+            }
+            Place::BeforeLoad => {
+                self.work(rt);
+                self.assure(rt, place);
+            }
+            Place::BeforeSettle | Place::AfterSettle => self.work(rt),
+        }
+    }
+
+    /// Where memory is refused for what the worker does next, and there is anything to do, it gives
+    /// back what it keeps in reserve.
+    fn assure<R: Wait>(&mut self, rt: &R, place: Place) {
+        if !self.wait.lock(rt).is_short(self.flags) {
+            return;
+        }
+        if place == Place::BeforeTake && self.output.is_empty(rt) {
+            self.wait.lock(rt).end_lack(self.flags);
+        } else {
+            self.wait.lock(rt).give_back(self.flags);
+        }
+    }
+
+    /// The worker looks for a chunk.
+    fn look<R: Wait>(&mut self, rt: &R) {
+        let mode = match self.backoff {
+            Backoff::AtOnce => {
+                self.wait.lock(rt).look_for_chunk();
+                self.backoff = Backoff::Soon;
+                return;
+            }
+            _ if self.flags.is_stopped() => return,
+            Backoff::Soon => WaitMode::Soon,
+            Backoff::Later(_) if self.output.is_empty(rt) => WaitMode::Idle,
+            Backoff::Later(idle) => WaitMode::Later(idle),
+        };
+        let was_woken = self.wait.lock(rt).wait_for_chunk(mode, self.flags);
+        self.backoff = if was_woken {
+            Backoff::Soon
+        } else {
+            Backoff::Later(mode.waited())
+        };
+    }
+
+    /// A worker that tried a server in vain was at work: it looks for another one soon.
+    fn note(&mut self, event: WorkerEvent) {
+        if let (WorkerEvent::Lost { .. }, Backoff::Later(_)) = (event, self.backoff) {
+            self.backoff = Backoff::Later(0);
+        }
+    }
+
+    /// The worker has a chunk. Where it was woken meanwhile another worker is: the wake may be for
+    /// another chunk.
+    fn work<R: Wait>(&mut self, rt: &R) {
+        self.backoff = Backoff::AtOnce;
+        let was_woken = self.wait.lock(rt).work();
+        if was_woken {
+            self.output.wake(1);
+        }
+    }
+}
+
+impl<'a> Gate for WorkerGate<'a> {
+    fn pass<R: Wait>(&mut self, rt: &R, _worker: u16, place: Place, _turn: u64) -> Pass {
+        self.come_to(rt, place);
+        if self.flags.is_stopped() {
+            Pass::Stop
+        } else {
+            Pass::Go
+        }
+    }
+
+    fn hear<R: Wait>(&mut self, rt: &R, worker: u16, event: WorkerEvent) {
+        let notice = WorkerNotice {
+            output: self.number,
+            worker,
+            event,
+        };
+        let mailbox = &self.inboxes.front.mailbox;
+        match self.denial.take() {
+            None => mailbox.tell(rt, notice),
+            Some(denial) => mailbox.tell_denied(rt, notice, denial),
+        }
+        self.note(event);
+        if let WorkerEvent::Settled { .. } = event {
+            for (reader, inbox) in (1..usize::MAX).zip(&self.inboxes.others) {
+                if self.output.subscribers.hears(reader) {
+                    inbox.mailbox.tell(rt, notice);
+                }
+            }
+        }
+    }
+
+    fn hear_denial<R: Wait>(&mut self, _rt: &R, _worker: u16, denial: Denial) {
+        self.denial = Some(denial);
+    }
+
+    fn hear_refused<R: Wait>(&mut self, rt: &R, _worker: u16, refused: Refused) {
+        let output = self.number;
+        let refusal = RefusedChunk { output, refused };
+        self.inboxes.front.mailbox.tell_refused(rt, refusal);
+    }
+}
+
+/// What the workers of a relay share with its readers, and when it started.
+#[derive(Clone, Copy)]
+pub struct WorkerSurroundings<'a> {
+    pub flags: &'a SharedFlags,
+    pub outputs: &'a [Output],
+    pub inboxes: &'a ReaderInboxes,
+    pub start: Option<Instant>,
+}
+
+/// What a worker works with: its gate, which knows its output, and the hub that connects it to the
+/// servers of just that output.
+#[derive(Drop)]
+struct Workplace<'a, N: Net> {
+    gate: WorkerGate<'a>,
+    hub: TcpHub<'a, N>,
+    ghost own: { hub ≡ gate.output.now.servers.items },
+}
+
+impl<'a, N: Net> Workplace<'a, N> {
+    /// What a worker of the output of this number works with, if there is such an output.
+    fn of(
+        net: &'a N,
+        around: WorkerSurroundings<'a>,
+        number: u16,
+        wait: &'a SharedWait,
+    ) -> Option<Workplace<'a, N>>
+        ensures own { IfSome result (λ place.
+            slice_get around.entry.outputs.now number ≡ Some place.gate.output.now) }
+        ensures none { result ≡ None → slice_get around.entry.outputs.now number ≡ None }
+    {
+        let output = around.outputs.get(number as usize)?;
+        let hub = TcpHub::new(net, &around.inboxes.front.mailbox, wait, &output.servers);
+        let gate = WorkerGate {
+            flags: around.flags,
+            inboxes: around.inboxes,
+            number,
+            output,
+            wait,
+            backoff: Backoff::Later(0),
+            denial: None,
+        };
+        Some(Workplace { gate, hub })
+    }
+
+    /// The worker works for the output in so many turns, or until all are to end.
+    fn run<R: Wait + Clock>(
+        self,
+        rt: &R,
+        worker: &mut Worker,
+        clock: &mut RunClock<'_, R>,
+        turns: u64,
+    ) {
+        let Workplace { mut gate, mut hub } = self;
+        let output = gate.output;
+        worker.run(rt, &output.shared, (), &mut hub, &mut gate, clock, turns);
+    }
+}
+
+/// A worker before its thread runs.
+pub struct WorkerThread {
+    output: u16,
+    worker: Worker,
+    wait: SharedWait,
+}
+
+// A drop of its own is proved once, and not at each place where a worker goes.
+impl Drop for WorkerThread {
+    fn drop(self) {
+        let WorkerThread {
+            output: _,
+            worker: _,
+            wait: _,
+        } = self;
+    }
+}
+
+impl WorkerThread {
+    /// A worker of the output of this number, and what wakes it.
+    pub(crate) fn new<R: Net>(
+        rt: &R,
+        alloc: Global,
+        output: u16,
+        worker: Worker,
+    ) -> Result<(WorkerThread, WorkerWaker), StartFault> {
+        let (wait, waker) = WorkerWait::new(rt, alloc)?;
+        let thread = WorkerThread {
+            output,
+            worker,
+            wait,
+        };
+        Ok((thread, waker))
+    }
+
+    /// Works for its output in so many turns, or until all are to end.
+    pub fn work<R: Net + Wait + Clock + AllocGlobal>(
+        &mut self,
+        rt: &R,
+        around: WorkerSurroundings<'_>,
+        turns: u64,
+    ) {
+        let Some(place) = Workplace::of(rt, around, self.output, &self.wait) else {
+            return;
+        };
+        let mut clock = RunClock::new(rt, around.start);
+        self.wait.lock(rt).refill(around.flags);
+        place.run(rt, &mut self.worker, &mut clock, turns);
+        self.wait.lock(rt).end_lack(around.flags);
+    }
+}

@@ -1,0 +1,11 @@
+pub mod Blocks
+pub mod Stores
+pub mod Telling
+pub mod Admitting
+pub mod Told
+pub mod Handing
+pub mod Routed
+pub mod Idlest
+pub mod Refusing
+pub mod Settling
+pub mod Collecting

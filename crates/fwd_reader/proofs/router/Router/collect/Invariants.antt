@@ -1,0 +1,15 @@
+use Rattle.std.proofs.Common.{◌≡◌, ◌≤◌, length}
+use Rattle.fwd_reader.specs.OpenConnections.{sources_in}
+use Rattle.fwd_reader.specs.Promises.{TellsPromised}
+use Rattle.fwd_reader.specs.Rounds.{CollectsFirst}
+use Rattle.fwd_reader.proofs.router.Router.collect.Given as goal
+
+-- the outputs below this number were collected
+abbrev pub invariant-loop-number : goal.invariant-loop-number
+invariant-loop-number g l =
+    (l.self.routes ≡ l.fn.self.routes)
+    × TellsPromised l.fn.self.routes (sources_in l.fn.connections) (sources_in l.connections)
+    × CollectsFirst l.number l.fn.self.stores (sources_in l.fn.connections) l.is_more
+    l.self.stores (sources_in l.connections)
+    × (length l.self.stores ≡ length l.fn.self.stores)
+    × (l.number ≤ length l.fn.self.stores)

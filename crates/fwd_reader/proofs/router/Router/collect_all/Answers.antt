@@ -1,0 +1,34 @@
+use Rattle.std.proofs.Common.{map, sym, subst, ◌∙◌}
+use Rattle.fwd_reader.specs.OpenConnections.{sources_in}
+use Rattle.fwd_reader.specs.OpenTickets.{all_due}
+use Rattle.fwd_reader.specs.Promises.{TellsPromised}
+use Rattle.fwd_reader.specs.Rounds.{CollectsTimes}
+use Rattle.fwd_reader.proofs.Collecting.{another_time, no_times}
+use Rattle.fwd_reader.proofs.Told.{nothing, on}
+use Rattle.fwd_reader.proofs.router.Router.collect_all.Goals as goal
+
+pub loop-init : goal.loop-init
+loop-init g c = (
+  c.settle_all.ensures.routes,
+  nothing c.args.self.now.routes (sources_in c.args.connections.now),
+  subst
+      (λ stores. CollectsTimes 0 (map all_due c.args.self.now.stores)
+      (sources_in c.args.connections.now) stores (sources_in c.args.connections.now))
+      (sym c.settle_all.ensures.due)
+      (no_times (map all_due c.args.self.now.stores) (sources_in c.args.connections.now)),
+)
+
+pub loop-preserved : goal.loop-preserved
+loop-preserved g c = (
+  c.collect.ensures.routes ∙ c.loop.invariant.0,
+  on c.args.self.now.routes (sources_in c.args.connections.now) (sources_in c.loop.connections)
+      (sources_in c.collect.new.connections) c.loop.invariant.1
+      (subst
+      (λ routes. TellsPromised routes (sources_in c.loop.connections)
+      (sources_in c.collect.new.connections))
+      c.loop.invariant.0 c.collect.ensures.promised),
+  another_time c.loop.counter (map all_due c.args.self.now.stores) c.loop.self.stores
+      c.collect.new.self.stores (sources_in c.args.connections.now)
+      (sources_in c.loop.connections) (sources_in c.collect.new.connections) c.collect.result
+      c.loop.invariant.2 (c.is_due.ensures.due c.if-not-is_due.false) c.collect.ensures.each,
+)

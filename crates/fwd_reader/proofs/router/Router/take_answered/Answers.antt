@@ -1,0 +1,19 @@
+use Rattle.std.proofs.Common.{arith, ◌∙◌, refl, sym, subst}
+use Rattle.std.specs.Prelude.{All}
+use Rattle.fwd_reader.specs.Promises.{HoldsRouted}
+use Rattle.fwd_reader.proofs.Admitting.{same_place}
+use Rattle.fwd_reader.proofs.router.Router.take_answered.Goals as goal
+
+pub invariant_of-self-2 : goal.invariant_of-self-2
+invariant_of-self-2 c =
+    let same = same_place c.self.inside.all.items c.args.number c.in-Some.output_route.now
+    c.take_answered.new.self (omega (arith, c.in-Some.ensures.variant.0 refl))
+    c.in-Some.ensures.value c.take_answered.ensures in
+    subst (All (HoldsRouted c.self.inside.routes.now)) (sym same) c.self.invariant
+
+pub returns : goal.returns
+returns c =
+    let same = same_place c.self.inside.all.items c.args.number c.in-Some.output_route.now
+    c.take_answered.new.self (omega (arith, c.in-Some.ensures.variant.0 refl))
+    c.in-Some.ensures.value c.take_answered.ensures in
+    (λ i. record { routes = c.self.inside.routes.now; stores = same i }) ∙ c.self.view_is

@@ -1,0 +1,125 @@
+-- Where a source's request goes: to the output that the routes name first for its tag, which keeps
+-- the ticket that shows it.
+use Rattle.std.specs.Prelude.{◌≡◌, ◌≢◌, ◌⊎◌, ℕ, List, [], ◌∷◌, Some, None, slice_set, cond, length}
+use Rattle.std.specs.Option.{is_some}
+use Rattle.std.specs.List.{slice_get}
+use Rattle.fwd_match.specs.Patterns.{route}
+use Rattle.fwd_modes.specs.Requests.{Request}
+use Rattle.fwd_modes.specs.declared.origin.Origin.{Origin}
+use Rattle.fwd_book.specs.declared.refusal.AdmitRefusal.{AdmitRefusal}
+use Rattle.fwd_book.specs.declared.refusal.AdmitRefusal.TheVariants as refusal
+use Rattle.fwd_peers.specs.Peers.{PeerShown, Gives, end_by, first_route, sized}
+use Rattle.fwd_peers.specs.declared.close_reason.CloseReason.{CloseReason}
+use Rattle.fwd_peers.specs.declared.close_reason.CloseReason.TheVariants as close_reason
+use Rattle.fwd_peers.specs.declared.peer_state.PeerState.TheVariants as stage
+use Rattle.fwd_output.specs.Tickets.{Ticket}
+use Rattle.fwd_reader.specs.declared.open_tickets.OpenTickets.{OpenTickets}
+use Rattle.fwd_reader.specs.OpenTickets.{AreAllSame, Keeps}
+
+-- an output keeps one ticket more, in one of its stores, which shows just this request of this
+-- connection, at the output of this number
+pub record KeepsTicketOf (n : ℕ) (s : OpenTickets) (asked : Origin × Request)
+    (t : OpenTickets) : Type 0 where
+  pub ticket : Ticket
+  pub output : ticket.setting.output ≡ n
+  pub origin : ticket.origin ≡ asked.0
+  pub batch : ticket.batch ≡ asked.1
+  pub kept : Keeps s ticket t
+
+-- a request of a connection is entered at the output of this number, which keeps a ticket of it; no
+-- other output's tickets change
+pub record Enters (stores : List OpenTickets) (number : ℕ) (asked : Origin × Request)
+    (after : List OpenTickets) : Type 0 where
+  pub store : OpenTickets
+  pub there : slice_get stores number ≡ Some store
+  pub with_ticket : OpenTickets
+  pub keeps : KeepsTicketOf number store asked with_ticket
+  pub others : after ≡ slice_set stores number with_ticket
+
+-- The first request that waits at a source is given, and entered at the output that the routes name
+-- first for its tag: the ticket that is kept of it tells the number of just that output.
+pub record Admits (routes : List (List (List ℕ))) (stores : List OpenTickets) (s : PeerShown)
+    (after : List OpenTickets) (t : PeerShown) : Type 0 where
+  pub asked : Origin × Request
+  pub given : Gives s (Some asked) t
+  pub number : ℕ
+  pub named : route routes asked.1.tag ≡ Some number
+  pub entered : Enters stores number asked after
+
+-- The output of this number did not take a request that it was handed, and why its source is closed:
+-- for the output's reason; or no output stands there.
+abbrev pub IsDeclined : List OpenTickets → (number : ℕ) → CloseReason → Type 0
+IsDeclined stores number why =
+    ((reason : AdmitRefusal) × (why ≡ close_reason.Refused number reason))
+    ⊎ ((slice_get stores number ≡ None) × (why ≡ close_reason.NoRoute))
+
+-- Why the first request that waits at a source is refused, and what the source is then. The routes
+-- name no output for its tag: it waits still. There is no room for its acknowledgement, when out of
+-- memory: it does so too. Or it was given, and the output that the routes name first for its tag did
+-- not take it.
+abbrev pub IsRefusedFor : (routes : List (List (List ℕ))) → List OpenTickets → PeerShown → CloseReason
+    → PeerShown → Type 0
+IsRefusedFor routes stores s why t =
+    ((first_route routes s ≡ None) × (why ≡ close_reason.NoRoute) × (t ≡ s))
+    ⊎ (((number : ℕ) × ((first_route routes s ≡ Some number)
+    × (why ≡ close_reason.Refused number refusal.Memory) × Gives s None t))
+    ⊎ ((asked : Origin × Request) × ((number : ℕ) × (Gives s (Some asked) t
+    × (route routes asked.1.tag ≡ Some number) × IsDeclined stores number why))))
+
+-- the first request that waits at a source is refused for this reason, and no output keeps a ticket
+-- of it
+pub record Refuses (routes : List (List (List ℕ))) (stores : List OpenTickets) (s : PeerShown)
+    (why : CloseReason) (after : List OpenTickets) (t : PeerShown) : Type 0 where
+  pub reason : IsRefusedFor routes stores s why t
+  pub same : AreAllSame stores after
+
+-- a source is over since a request of it was refused for this reason; a request that is larger than
+-- all that its output may hold is told to be
+abbrev pub IsEndedFor : CloseReason → PeerShown → PeerShown → Type 0
+IsEndedFor why s t =
+    (bytes : ℕ) × ((limit : ℕ) × (t ≡ record s {
+      stage = stage.Over;
+      why = Some (end_by (sized why bytes limit));
+    }))
+
+-- these requests of a source are admitted one after the other, each as the first that waits
+abbrev pub AdmitsAll : (routes : List (List (List ℕ))) → List (Origin × Request)
+    → List OpenTickets → PeerShown → List OpenTickets → PeerShown → Type 0
+AdmitsAll routes [] stores s after t = (after ≡ stores) × (t ≡ s)
+AdmitsAll routes (asked ∷ others) stores s after t =
+    (between : List OpenTickets) × ((u : PeerShown) × ((one : Admits routes stores s between u)
+    × ((one.asked ≡ asked) × AdmitsAll routes others between u after t)))
+
+-- all requests that wait at a source are admitted: none is left
+pub record AdmitsEach (routes : List (List (List ℕ))) (stores : List OpenTickets) (s : PeerShown)
+    (after : List OpenTickets) (t : PeerShown) : Type 0 where
+  pub asked : List (Origin × Request)
+  pub admitted : AdmitsAll routes asked stores s after t
+  pub none : t.live.waiting ≡ []
+
+-- some are, and the next has to wait: it is the first that waits still, and the routes name an output
+-- for its tag
+pub record AdmitsAndWaits (routes : List (List (List ℕ))) (stores : List OpenTickets)
+    (s : PeerShown) (after : List OpenTickets) (t : PeerShown) : Type 0 where
+  pub asked : List (Origin × Request)
+  pub admitted : AdmitsAll routes asked stores s after t
+  pub number : ℕ
+  pub named : first_route routes t ≡ Some number
+
+-- some are, and the next is refused: the source is over for that reason, and nothing behind it is
+-- given
+pub record AdmitsAndRefuses (routes : List (List (List ℕ))) (stores : List OpenTickets)
+    (s : PeerShown) (after : List OpenTickets) (t : PeerShown) : Type 0 where
+  pub asked : List (Origin × Request)
+  pub between : List OpenTickets
+  pub before : PeerShown
+  pub admitted : AdmitsAll routes asked stores s between before
+  pub waits : before.live.waiting ≢ []
+  pub why : CloseReason
+  pub refused : PeerShown
+  pub refuses : Refuses routes between before why after refused
+  pub ended : IsEndedFor why refused t
+
+-- the entries of a request, where its sender asked for no acknowledgement of them
+abbrev pub silent_entries : Request → ℕ
+silent_entries r = cond (is_some r.chunk) 0 (length r.entries)

@@ -1,0 +1,47 @@
+-- Which source stands under an id, and which of two is idle for longer. It only describes the code.
+use Rattle.std.specs.Prelude.{◌==◌, ℕ, Bool, true, false, nat_le, Option, Some, None, if◌then◌else◌}
+use Rattle.std.specs.Ordering.{nat_cmp}
+use Rattle.std.specs.BTreeMap as tree
+use Rattle.slab.specs.Slab as slots
+use Rattle.fwd_peers.specs.Peers.{PeerShown}
+use Rattle.fwd_reader.specs.declared.peer.Peer.{Peer}
+use Rattle.fwd_reader.specs.declared.peer.Peer.TheVariants as kind
+use Rattle.fwd_reader.specs.declared.connections.Idle.{Idle}
+use Rattle.fwd_reader.specs.declared.connections.OpenConnection.{OpenConnection}
+use Rattle.fwd_reader.specs.declared.connections.Connections.{Connections}
+use Rattle.fwd_reader.specs.Tellings.{Sources}
+
+-- the source that a connection is, if it has this id
+abbrev pub source_with : ℕ → Peer → Option PeerShown
+source_with id (kind.Source source) = if source.id == id then Some source else None
+source_with id (kind.Monitor monitor) = None
+
+-- the source that stands, if one of this id does
+abbrev pub source_in : ℕ → Option OpenConnection → Option PeerShown
+source_in id None = None
+source_in id (Some opened) = source_with id opened.connection
+
+-- the source of this id at this key
+abbrev pub source_under : slots.Slab OpenConnection → ℕ → Option ℕ → Option PeerShown
+source_under opened id None = None
+source_under opened id (Some key) = source_in id (slots.get opened key)
+
+-- the source of this id
+abbrev pub source_at : tree.BTreeMap ℕ ℕ → slots.Slab OpenConnection → ℕ → Option PeerShown
+source_at keys opened id = source_under opened id (tree.get nat_cmp keys id)
+
+-- the sources that stand, by their ids
+abbrev pub sources_in : Connections → Sources
+sources_in c = source_at c.sources c.opened
+
+-- whether a connection is a source's
+abbrev pub is_source : Peer → Bool
+is_source (kind.Source source) = true
+is_source (kind.Monitor monitor) = false
+
+-- an idle source that was found, or the connection at a key, where that is idle for longer
+abbrev pub longer_idle : Option Idle → (key : ℕ) → (since : Option ℕ) → Option Idle
+longer_idle found key None = found
+longer_idle None key (Some since) = Some (record { key = key; since = since })
+longer_idle (Some idle) key (Some since) =
+    if nat_le idle.since since then Some idle else Some (record { key = key; since = since })

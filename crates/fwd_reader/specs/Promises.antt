@@ -1,0 +1,38 @@
+-- What is promised of each receipt that a source is told of: it is right for its request, at the
+-- output that the routes name first for the request's tag.
+use Rattle.std.specs.Prelude.{◌≡◌, ℕ, List, Some, All}
+use Rattle.fwd_match.specs.Patterns.{route}
+use Rattle.fwd_book.specs.History.{BookSetting}
+use Rattle.fwd_book.specs.Receipts.{Receipt}
+use Rattle.fwd_output.specs.Tickets.{Ticket, IsRight, ticket_of}
+use Rattle.fwd_reader.specs.Stores.{Held, held_in}
+use Rattle.fwd_reader.specs.declared.open_tickets.OpenTickets.{OpenTickets}
+use Rattle.fwd_reader.specs.Tellings.{Sources, AreTold}
+
+-- a ticket tells the number of the output that the routes name first for its tag
+abbrev pub IsRouted : List (List (List ℕ)) → Ticket → Type 0
+IsRouted routes ticket = route routes ticket.batch.tag ≡ Some ticket.setting.output
+
+-- so does each ticket that a store holds
+pub record AreRouted (routes : List (List (List ℕ))) (s : Held) : Type 0 where
+  pub waits : (chunk : ℕ) → All (IsRouted routes) (s.waits chunk)
+  pub due : All (IsRouted routes) s.due
+  pub late : All (IsRouted routes) s.late
+
+-- so does each that an output gave, in both stores
+pub record HoldsRouted (routes : List (List (List ℕ))) (s : OpenTickets) : Type 0 where
+  pub few : AreRouted routes (held_in s.few)
+  pub many : AreRouted routes (held_in s.many)
+
+-- what is promised of a receipt: it is right for its request, at an output, and the routes name
+-- that output first for its tag
+pub record IsPromised (routes : List (List (List ℕ))) (r : Receipt) : Type 0 where
+  pub setting : BookSetting
+  pub routed : route routes r.tag ≡ Some setting.output
+  pub right : IsRight r (ticket_of setting r)
+
+-- sources are told of receipts alone of which this is promised
+pub record TellsPromised (routes : List (List (List ℕ))) (s t : Sources) : Type 0 where
+  pub receipts : List Receipt
+  pub told : AreTold s receipts t
+  pub promised : All (IsPromised routes) receipts

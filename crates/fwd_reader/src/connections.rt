@@ -1,0 +1,580 @@
+//! The connections that stand.
+
+ghost use Rattle.std.specs.Prelude.{◌≡◌, ℕ, false, not, true, IfNone, IfSome};
+ghost use Rattle.fwd_reader.specs.Idling.{IsCrowding, IsIdlest, NoneIsIdle};
+ghost use Rattle.fwd_reader.specs.Idling as idling;
+ghost use Rattle.fwd_reader.specs.Lateness.{IsLate, is_late};
+ghost use Rattle.fwd_reader.specs.OpenConnections.{is_source, longer_idle, source_with, sources_in};
+ghost use Rattle.fwd_reader.specs.Tellings.{AreTold, IsToldAt, IsToldOf};
+
+use crate::admission::EvictionCandidate;
+use crate::deadlines::{Deadlines, Unidentified};
+use crate::peer::{HEAD_LIMIT, LOGIN_LIMIT, Peer};
+use fwd_book::Receipt;
+use fwd_peers::{PeerAddress, SourcePeer};
+use mio::{Interest, Registry, Token};
+use slab::Slab;
+use std::alloc::{AllocError, Global};
+use std::collections::{BTreeMap, VecDeque};
+use std::mem;
+
+/// Of so many sources at a time it is watched whether they say anything: the journal has room for
+/// ten lines a second.
+const WATCHED: usize = 4_096;
+
+/// A connection that is open.
+#[derive(Drop)]
+pub(crate) struct OpenConnection {
+    connection: Peer,
+    /// When it came, in milliseconds.
+    came: u64,
+    /// It stands in the queue of those that are ready.
+    is_ready: bool,
+    /// It stands in the queue of those that may be written.
+    is_writable: bool,
+    /// It stands in the queue of those whose requests wait.
+    is_queued: bool,
+    /// The system told that its other side closed, or that it failed, which it tells once: it is
+    /// read to its end from now on.
+    is_closing: bool,
+    /// Since when requests of it have waited at an output, in milliseconds, if some do.
+    waiting_since: Option<u64>,
+    /// It is a source whose other side is gone, and of which requests are kept: it takes no place.
+    is_kept: bool,
+}
+
+impl OpenConnection {
+    /// Since when it could give its place to a new one (milliseconds), where it is a source and
+    /// does not wait to be read: it has been silent, and neither it nor the relay owes the other
+    /// anything; or it waits at an output, and sends its request again, since it asked for an
+    /// acknowledgement.
+    fn idle_since(&self) -> Option<u64>
+        ensures { result ≡ idling.idle_since self.now }
+    {
+        if self.is_ready {
+            return None;
+        }
+        match &self.connection {
+            Peer::Source(source) if source.asks() => self.waiting_since,
+            Peer::Source(source) => source.silent_since(),
+            Peer::Monitor(_) => None,
+        }
+    }
+
+    /// Whether requests of it wait at an output, and it takes a place.
+    fn is_crowding(&self) -> bool
+        ensures { result ≡ idling.is_crowding self.now }
+    {
+        self.waiting_since.is_some() && !self.is_kept
+    }
+
+    /// Which of two is to give its place first: one that was found, or this one, at a key. One that
+    /// asks goes before one that does not; of two that ask the one that waits longer, and of two
+    /// that do not the one that waits less.
+    fn first_out(&self, key: usize, found: Option<EvictionCandidate>) -> Option<EvictionCandidate> {
+        let (Some(since), Peer::Source(source)) = (self.waiting_since, &self.connection) else {
+            return found;
+        };
+        if self.is_kept {
+            return found;
+        }
+        let own = EvictionCandidate {
+            key,
+            asks: source.asks(),
+            since,
+        };
+        match found {
+            Some(found) if found.goes_before(&own) => Some(found),
+            _ => Some(own),
+        }
+    }
+
+    /// Whether it has had its time by a moment (milliseconds), and has not shown what it is.
+    fn is_late(&self, now: u64) -> bool
+        ensures { result ≡ is_late now self.now }
+    {
+        self.connection.is_unknown() && now.saturating_sub(self.came) >= self.connection.limit()
+    }
+
+    /// Tells a receipt to a source, if it is of one of its requests, and says whether it is to
+    /// stand in the queue of those that may be written, where it did not.
+    #[tactic(auto, using(crate::proofs::Telling::told_alone, crate::proofs::Telling::stays))]
+    fn answer(&mut self, receipt: &Receipt) -> bool
+        ensures told { (id : ℕ) → IsToldAt id receipt.now
+            (source_with id self.old.connection) (source_with id self.new.connection) }
+        ensures queued { is_source self.old.connection ≡ true
+            → (result ≡ not self.old.is_writable) × (self.new.is_writable ≡ true) }
+        ensures stays { is_source self.old.connection ≡ false
+            → (result ≡ false) × (self.new ≡ self.old) }
+    {
+        match &mut self.connection {
+            Peer::Source(source) => source.answer(receipt),
+            Peer::Monitor(_) => return false,
+        }
+        !mem::replace(&mut self.is_writable, true)
+    }
+}
+
+/// A source that is idle.
+#[derive(Clone, Copy)]
+struct Idle {
+    key: usize,
+    /// Since when, in milliseconds.
+    since: u64,
+}
+
+/// The connection at a key, where it is idle, and has been for longer than this one.
+fn longer_of(idlest: Option<Idle>, key: usize, opened: &OpenConnection) -> Option<Idle>
+    ensures { result ≡ longer_idle idlest key (idling.idle_since opened.now) }
+{
+    let Some(since) = opened.idle_since() else {
+        return idlest;
+    };
+    match idlest {
+        Some(idlest) if idlest.since <= since => Some(idlest),
+        _ => Some(Idle { key, since }),
+    }
+}
+
+/// The connections that stand, by keys, with three queues: of those that are ready to be read, or
+/// may have more to be read; of the sources that have something to be sent, or may take it now; and
+/// of the sources whose requests wait at outputs until others are answered, or settled.
+#[derive(Drop)]
+pub struct Connections {
+    opened: Slab<OpenConnection>,
+    /// Each key at most once.
+    ready: VecDeque<usize>,
+    /// Each key at most once.
+    writable: VecDeque<usize>,
+    /// Each key that stands there at most once.
+    waiting: VecDeque<usize>,
+    /// The keys of the sources, by their ids.
+    sources: BTreeMap<u64, usize>,
+    /// The keys of the monitors.
+    monitors: Vec<usize>,
+    /// Sources that may have yet to log in.
+    logins: Deadlines,
+    /// Monitors that may have yet to send their heads.
+    heads: Deadlines,
+    /// The sources that are not asked to log in, and may never say anything.
+    silent: Deadlines,
+    /// How many of the sources take a place though requests of them wait.
+    crowding: usize,
+    /// How many of the sources are kept, and take no place.
+    kept: usize,
+    /// The most that are.
+    kept_limit: usize,
+}
+
+/// A connection that is ready to be read, or may be written.
+pub struct Ready<'a> {
+    pub key: usize,
+    /// It is to be read to its end.
+    pub to_end: bool,
+    pub connection: &'a mut Peer,
+}
+
+impl Connections {
+    /// No connections. Of the sources whose other side is gone, and of which requests wait, so many
+    /// take no place.
+    pub fn new(alloc: Global, kept_limit: usize) -> Connections {
+        Connections {
+            opened: Slab::new(alloc),
+            ready: VecDeque::new(alloc),
+            writable: VecDeque::new(alloc),
+            waiting: VecDeque::new(alloc),
+            sources: BTreeMap::new(alloc),
+            monitors: Vec::new(alloc),
+            logins: Deadlines::new(alloc, LOGIN_LIMIT),
+            heads: Deadlines::new(alloc, HEAD_LIMIT),
+            silent: Deadlines::new(alloc, LOGIN_LIMIT),
+            crowding: 0,
+            kept: 0,
+            kept_limit,
+        }
+    }
+
+    /// How many sources take a place.
+    pub fn sources(&self) -> usize {
+        self.sources.len().saturating_sub(self.kept)
+    }
+
+    /// How many of these wait at outputs.
+    pub fn crowding(&self) -> usize {
+        self.crowding
+    }
+
+    /// How many sources stand, whether they take a place or not.
+    pub fn standing(&self) -> usize {
+        self.sources.len()
+    }
+
+    /// No connection has this key or a greater one.
+    pub fn key_limit(&self) -> usize {
+        self.opened.capacity()
+    }
+
+    /// How many monitors stand.
+    pub fn monitors(&self) -> usize {
+        self.monitors.len()
+    }
+
+    /// The key of the monitor at a place among those that stand.
+    pub(crate) fn monitor_key(&self, place: usize) -> Option<usize> {
+        Some(*self.monitors.get(place)?)
+    }
+
+    /// A connection comes at a moment (milliseconds), is registered, and is ready. Where the system
+    /// or memory refuses it, which is the only error, it is dropped.
+    pub fn add(
+        &mut self,
+        registry: &Registry,
+        connection: Peer,
+        now: u64,
+    ) -> Result<(), AllocError> {
+        self.reserve()?;
+        let id = match &connection {
+            Peer::Source(source) => Some(source.id()),
+            Peer::Monitor(_) => None,
+        };
+        let opened = OpenConnection {
+            connection,
+            came: now,
+            is_ready: false,
+            is_writable: false,
+            is_queued: false,
+            is_closing: false,
+            waiting_since: None,
+            is_kept: false,
+        };
+        let Ok(key) = self.opened.insert(opened) else {
+            return Err(AllocError);
+        };
+        if self.register(registry, key).is_none() || self.count(id, key, now).is_err() {
+            let _ = self.opened.try_remove(key);
+            return Err(AllocError);
+        }
+        self.note_ready(key, false);
+        Ok(())
+    }
+
+    /// Has room for one more connection in each queue. The only error is out of memory.
+    fn reserve(&mut self) -> Result<(), AllocError> {
+        let count = self.opened.len().saturating_add(1);
+        self.ready.reserve(count)?;
+        self.writable.reserve(count)?;
+        self.waiting.reserve(count)?;
+        Ok(())
+    }
+
+    /// Has the wait tell of a connection.
+    fn register(&mut self, registry: &Registry, key: usize) -> Option<()> {
+        let socket = self.opened.get_mut(key)?.connection.socket();
+        let interest = Interest::READABLE | Interest::WRITABLE;
+        registry.register(socket, Token(key), interest).ok()
+    }
+
+    /// Counts a source, or a monitor, that came at a moment (milliseconds). The only error is out
+    /// of memory.
+    fn count(&mut self, id: Option<u64>, key: usize, now: u64) -> Result<(), AllocError> {
+        let unidentified = Unidentified { key, came: now };
+        match id {
+            Some(id) => {
+                if self.is_unknown(key) {
+                    self.logins.add(unidentified)?;
+                } else if self.silent.len() < WATCHED {
+                    let _ = self.silent.add(unidentified);
+                }
+                self.sources.insert(id, key)?;
+            }
+            None => {
+                self.heads.add(unidentified)?;
+                self.monitors.push(key)?;
+            }
+        }
+        Ok(())
+    }
+
+    /// Whether the connection of this key has yet to show what it is.
+    fn is_unknown(&self, key: usize) -> bool {
+        self.opened
+            .get(key)
+            .is_some_and(|opened| opened.connection.is_unknown())
+    }
+
+    /// Whether the connection of this key has had its time by a moment (milliseconds), and has not
+    /// shown what it is.
+    fn is_late(&self, key: usize, now: u64) -> bool
+        ensures { result ≡ true → IsLate self.now now key }
+    {
+        match self.opened.get(key) {
+            Some(opened) => opened.is_late(now),
+            None => false,
+        }
+    }
+
+    /// The key of a connection that had its time by a moment (milliseconds) and has not shown what
+    /// it is: a source that has not logged in, a monitor that has not sent its head.
+    pub fn next_late(&mut self, now: u64) -> Option<usize>
+        ensures { IfSome result (IsLate self.new now) }
+    {
+        for _ in 0..u32::MAX {
+            let unidentified = match self.logins.next(now) {
+                Some(unidentified) => unidentified,
+                None => self.heads.next(now)?,
+            };
+            if self.is_late(unidentified.key, now) {
+                return Some(unidentified.key);
+            }
+        }
+        None
+    }
+
+    /// Where a source comes from that had its time by a moment (milliseconds), was not asked to log
+    /// in, and has said nothing. Each is named once.
+    pub fn next_silent(&mut self, now: u64) -> Option<PeerAddress> {
+        for _ in 0..u32::MAX {
+            let Unidentified { key, came } = self.silent.next(now)?;
+            match self.opened.get(key) {
+                Some(opened) if opened.came == came => match &opened.connection {
+                    Peer::Source(source) if source.is_silent() => return Some(source.peer()),
+                    _ => {}
+                },
+                _ => {}
+            }
+        }
+        None
+    }
+
+    /// The connection of this key, if it stands.
+    pub fn at(&mut self, key: usize) -> Option<&mut Peer> {
+        Some(&mut self.opened.get_mut(key)?.connection)
+    }
+
+    /// A connection may be read; to its end, where the system told that it closed or failed.
+    pub fn note_ready(&mut self, key: usize, is_closing: bool) {
+        let Some(opened) = self.opened.get_mut(key) else {
+            return;
+        };
+        opened.is_closing = opened.is_closing || is_closing;
+        if !opened.is_ready {
+            opened.is_ready = true;
+            // Room for it was made when the connection came.
+            let _ = self.ready.push_back(key);
+        }
+    }
+
+    /// A connection has something to be sent, or may take it now.
+    pub fn note_writable(&mut self, key: usize) {
+        let Some(opened) = self.opened.get_mut(key) else {
+            return;
+        };
+        if !opened.is_writable {
+            opened.is_writable = true;
+            // Room for it was made when the connection came.
+            let _ = self.writable.push_back(key);
+        }
+    }
+
+    /// A source's requests wait from a moment (milliseconds) until others are answered or settled.
+    pub fn note_waiting(&mut self, key: usize, now: u64) {
+        let Some(opened) = self.opened.get_mut(key) else {
+            return;
+        };
+        if opened.waiting_since.is_none() {
+            opened.waiting_since = Some(now);
+            self.crowding = self.crowding.saturating_add(usize::from(!opened.is_kept));
+        }
+        if !opened.is_queued {
+            opened.is_queued = true;
+            // Room for it was made when the connection came.
+            let _ = self.waiting.push_back(key);
+        }
+    }
+
+    /// The same of a source whose other side is gone. It takes no place from now on, but where too
+    /// many do not already.
+    pub fn note_kept(&mut self, key: usize, now: u64) {
+        self.note_waiting(key, now);
+        if self.kept >= self.kept_limit {
+            return;
+        }
+        let Some(opened) = self.opened.get_mut(key) else {
+            return;
+        };
+        if !opened.is_kept {
+            opened.is_kept = true;
+            self.kept = self.kept.saturating_add(1);
+            self.crowding = self.crowding.saturating_sub(1);
+        }
+    }
+
+    /// No request of a source waits any more.
+    pub fn note_admitted(&mut self, key: usize) {
+        let Some(opened) = self.opened.get_mut(key) else {
+            return;
+        };
+        if opened.waiting_since.take().is_some() && !opened.is_kept {
+            self.crowding = self.crowding.saturating_sub(1);
+        }
+    }
+
+    /// The sources whose requests wait are ready, in the order in which they came to wait. Nothing
+    /// is kept of why they wait: each asks again.
+    pub fn retry_waiting(&mut self) {
+        for _ in 0..self.waiting.len() {
+            self.retry_next();
+        }
+    }
+
+    /// The source that came to wait first is ready.
+    fn retry_next(&mut self) {
+        let Some(key) = self.waiting.pop_front() else {
+            return;
+        };
+        let Some(opened) = self.opened.get_mut(key) else {
+            return;
+        };
+        if mem::replace(&mut opened.is_queued, false) {
+            self.note_ready(key, false);
+        }
+    }
+
+    /// The key of the source that could have given its place to a new one for longest at a moment
+    /// (milliseconds), where it could for so long (milliseconds): it has been silent, and neither
+    /// it nor the relay owes the other anything; or it waits with a request that it sends again.
+    /// All connections are looked at. That costs less than the connection that is wanted.
+    pub fn idlest(&self, limit: u64, now: u64) -> Option<usize>
+        ensures found { IfSome result (λ key. IsIdlest self.now limit now key) }
+        ensures none { IfNone result (NoneIsIdle self.now limit now) }
+    {
+        let mut idlest = None;
+        for (key, opened) in self.opened.iter() {
+            idlest = longer_of(idlest, key, opened);
+        }
+        let Idle { key, since } = idlest?;
+        if now.saturating_sub(since) < limit {
+            return None;
+        }
+        Some(key)
+    }
+
+    /// The key of a source that waits at an output and is to give its place to a new one, if one
+    /// waits: of those that asked for an acknowledgement, and send again, the one that has waited
+    /// longest; and where none did, the one that came to wait last.
+    pub fn crowded_out(&self) -> Option<usize>
+        ensures { IfSome result (IsCrowding self.now) }
+    {
+        let mut found = None;
+        for (key, opened) in self.opened.iter() {
+            found = opened.first_out(key, found);
+        }
+        let key = found?.key;
+        if self.is_crowding(key) {
+            Some(key)
+        } else {
+            None
+        }
+    }
+
+    /// Whether the connection of this key waits at an output, and takes a place.
+    fn is_crowding(&self, key: usize) -> bool
+        ensures { result ≡ true → IsCrowding self.now key }
+    {
+        match self.opened.get(key) {
+            Some(opened) => opened.is_crowding(),
+            None => false,
+        }
+    }
+
+    /// How many connections are ready.
+    pub fn ready(&self) -> usize {
+        self.ready.len()
+    }
+
+    /// How many connections may be written.
+    pub fn writable(&self) -> usize {
+        self.writable.len()
+    }
+
+    /// The next connection that is ready.
+    pub fn next_ready(&mut self) -> Option<Ready<'_>> {
+        let key = self.ready.pop_front()?;
+        let opened = self.opened.get_mut(key)?;
+        opened.is_ready = false;
+        Some(Ready {
+            key,
+            to_end: opened.is_closing,
+            connection: &mut opened.connection,
+        })
+    }
+
+    /// The next connection that may be written.
+    pub fn next_writable(&mut self) -> Option<Ready<'_>> {
+        let key = self.writable.pop_front()?;
+        let opened = self.opened.get_mut(key)?;
+        opened.is_writable = false;
+        Some(Ready {
+            key,
+            to_end: opened.is_closing,
+            connection: &mut opened.connection,
+        })
+    }
+
+    /// Tells each receipt to the source whose request it is of, where that still stands.
+    pub(crate) fn tell_all(&mut self, receipts: &[Receipt])
+        ensures { AreTold (sources_in self.old) receipts.now (sources_in self.new) }
+    {
+        for receipt in receipts {
+            self.tell(receipt);
+        }
+    }
+
+    /// Tells a receipt to the source whose request it is of, where that still stands.
+    fn tell(&mut self, receipt: &Receipt)
+        ensures { IsToldOf (sources_in self.old) receipt.now (sources_in self.new) }
+    {
+        let Some(key) = self.sources.get(&receipt.origin().conn) else {
+            return;
+        };
+        let key = *key;
+        let Some(opened) = self.opened.get_mut(key) else {
+            return;
+        };
+        if opened.answer(receipt) {
+            // Room for it was made when the connection came.
+            let _ = self.writable.push_back(key);
+        }
+    }
+
+    /// A connection goes.
+    pub fn remove(&mut self, key: usize) {
+        self.forget(key);
+        let Some(opened) = self.opened.try_remove(key) else {
+            return;
+        };
+        match &opened.connection {
+            Peer::Source(source) => {
+                self.sources.remove(&source.id());
+            }
+            Peer::Monitor(_) => self.monitors.retain(|monitor| *monitor != key),
+        }
+    }
+
+    /// A connection that goes leaves the queue of those that wait, and is counted no more.
+    fn forget(&mut self, key: usize)
+        ensures opened { self.new.opened ≡ self.old.opened }
+        ensures sources { self.new.sources ≡ self.old.sources }
+    {
+        let Some(opened) = self.opened.get(key) else {
+            return;
+        };
+        self.kept = self.kept.saturating_sub(usize::from(opened.is_kept));
+        self.crowding = self
+            .crowding
+            .saturating_sub(usize::from(opened.is_crowding()));
+        if opened.is_queued {
+            self.waiting.retain(|other| *other != key);
+        }
+    }
+}

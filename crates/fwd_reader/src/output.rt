@@ -1,0 +1,130 @@
+//! The outputs, as threads share them.
+
+ghost use Rattle.std.specs.Prelude.{◌≡◌, ℕ, length, map, IfOk};
+ghost use Rattle.fwd_peers.specs.Peers as peers;
+ghost use Rattle.fwd_reader.specs.Ages.{age_at};
+ghost use Rattle.fwd_reader.specs.Ends.{AddUp};
+
+use crate::admission::SharedAdmission;
+use crate::subscribers::Subscribers;
+use fwd_base::Text;
+use fwd_chunks::Report;
+use fwd_links::WorkerWaker;
+use fwd_monitor::OutputFigures;
+use fwd_output::{Plain, SharedOutput};
+use fwd_peers::CloseReason;
+use std::alloc::{AllocError, Global};
+use std::net::SocketAddr;
+use std::sync::Wait;
+
+/// An output that threads share, where its servers are reached, and what wakes its workers.
+#[derive(Drop)]
+pub struct Output {
+    pub shared: SharedOutput<Plain, Plain>,
+    pub servers: Vec<SocketAddr>,
+    pub wakers: Vec<WorkerWaker>,
+    /// The most bytes of entries that it holds.
+    pub total: u64,
+    /// Sources wait where it is full, and are not closed.
+    pub waits_when_full: bool,
+    /// Which readers are to hear of its settled chunks.
+    pub subscribers: Subscribers,
+    /// Who may enter, and who waits.
+    pub admission: SharedAdmission,
+}
+
+/// Why a source is closed, whose request has so many bytes, at one of these outputs.
+pub(crate) fn sized(outputs: &[Output], why: CloseReason, bytes: u64) -> CloseReason
+    ensures { (limit : ℕ) × (result ≡ peers.sized why bytes limit) }
+{
+    let CloseReason::Refused(output, _) = why else {
+        return why;
+    };
+    match outputs.get(output as usize) {
+        None => why,
+        Some(own) => why.sized(bytes, own.total),
+    }
+}
+
+impl Output {
+    /// Whether it has no entries.
+    pub fn is_empty<R: Wait>(&self, rt: &R) -> bool {
+        self.shared.counts(rt).held == 0
+    }
+
+    /// Whether there are several readers.
+    pub(crate) fn has_several_readers(&self) -> bool {
+        self.subscribers.has_several()
+    }
+
+    /// Whether one of the output's workers looks for a chunk.
+    pub(crate) fn is_awaited(&self) -> bool {
+        self.wakers.iter().any(|waker| waker.is_awaited())
+    }
+
+    /// Wakes the output's workers that look for a chunk, one for each of so many chunks.
+    pub fn wake(&self, chunks: usize) {
+        let mut left = chunks;
+        for waker in &self.wakers {
+            if left == 0 {
+                return;
+            }
+            if waker.wake() {
+                left -= 1;
+            }
+        }
+    }
+}
+
+/// How many whole seconds ago something was that began at a moment (both in milliseconds), and 0
+/// where there is no such thing.
+fn age_at(now: u64, since: Option<u64>) -> u64
+    ensures { result ≡ age_at now since }
+{
+    match since {
+        None => 0,
+        Some(since) => now.saturating_sub(since) / 1_000,
+    }
+}
+
+/// The most bytes of entries that each output holds, how old its oldest chunk is at a moment
+/// (milliseconds), and what waits there, in their order, without their patterns. Each is locked by
+/// itself for a moment. The only error is out of memory.
+pub(crate) fn figures_of<R: Wait>(
+    rt: &R,
+    alloc: Global,
+    outputs: &[Output],
+    now: u64,
+) -> Result<Vec<OutputFigures>, AllocError>
+    ensures { IfOk result (λ figures. map (λ f. f.total_limit) figures.items
+        ≡ map (λ output. output.total) outputs.now) }
+{
+    let mut figures = Vec::with_capacity(alloc, outputs.len())?;
+    for output in outputs {
+        figures.push(OutputFigures {
+            pattern: Text::from_string(String::new(alloc)),
+            total_limit: output.total,
+            oldest_age: age_at(now, output.shared.oldest(rt)),
+            waiting_sources: output.admission.waiting_sources(),
+            waiting_bytes: output.admission.waiting_bytes(),
+        })?;
+    }
+    Ok(figures)
+}
+
+/// What each output has to do with, in all and of each tag, in their order. Each is locked by
+/// itself for a moment. The only error is out of memory.
+pub fn reports_of<R: Wait>(
+    rt: &R,
+    alloc: Global,
+    outputs: &[Output],
+) -> Result<Vec<Report>, AllocError>
+    ensures count { IfOk result (λ reports. length reports.items ≡ length outputs.now) }
+    ensures add_up { IfOk result (λ reports. AddUp reports.items) }
+{
+    let mut reports = Vec::with_capacity(alloc, outputs.len())?;
+    for output in outputs {
+        reports.push(output.shared.report(rt, alloc)?)?;
+    }
+    Ok(reports)
+}

@@ -1,0 +1,238 @@
+//! An output as the loop sees it.
+
+ghost use Rattle.std.specs.Prelude.{◌≡◌, ℕ, List, true, false, OnOk, OnErr};
+ghost use Rattle.fwd_reader.specs.Admissions.{KeepsTicketOf, silent_entries};
+ghost use Rattle.fwd_reader.specs.OpenTickets.{AreSame};
+ghost use Rattle.fwd_reader.specs.OpenConnections.{sources_in};
+ghost use Rattle.fwd_reader.specs.Collections.{Collects, CollectsInPart, CollectsWhole};
+ghost use Rattle.fwd_reader.specs.Promises.{HoldsRouted, TellsPromised};
+
+use crate::connections::Connections;
+use crate::flush_timer::FlushTimer;
+use crate::open_tickets::{Backlog, OpenTickets};
+use crate::output::Output;
+use fwd_book::{AdmitRefusal, Receipt};
+use fwd_chunks::FlushKind;
+use fwd_modes::{Batch, Origin};
+use fwd_monitors::Accepted;
+use fwd_output::Ticket;
+use fwd_peers::upkeep;
+use std::alloc::{AllocError, Global};
+use std::mem;
+use std::sync::Wait;
+
+/// The most blocks of tickets that are handed in to an output at a time: some hundred tickets.
+const BLOCKS: u16 = 16;
+
+/// What requests take beside their entries that are answered by these receipts, in bytes.
+fn upkeep_of(receipts: &[Receipt]) -> u64 {
+    let mut bytes: u64 = 0;
+    for receipt in receipts {
+        let one = upkeep(receipt.tag(), receipt.chunk());
+        bytes = bytes.saturating_add(one as u64);
+    }
+    bytes
+}
+
+/// How many entries a request has, where its source asks for no acknowledgement of them, and else
+/// none.
+fn silent_entries(batch: &Batch) -> u64
+    ensures { result ≡ silent_entries batch.now }
+{
+    match batch.chunk() {
+        None => batch.len() as u64,
+        Some(_) => 0,
+    }
+}
+
+/// Which chunks a flush closes, where it is urgent or not.
+fn kind_of(is_urgent: bool) -> FlushKind
+    ensures urgent { is_urgent ≡ true → result ≡ FlushKind.All }
+    ensures due { is_urgent ≡ false → result ≡ FlushKind.Due }
+{
+    if is_urgent {
+        FlushKind::All
+    } else {
+        FlushKind::Due
+    }
+}
+
+/// An output, the tickets that it gave, and when it is flushed. It must be spent: by `close`.
+pub(crate) struct OutputRoute<'a> {
+    alloc: Global,
+    output: &'a Output,
+    pub open_tickets: OpenTickets,
+    pub timer: &'a mut FlushTimer,
+    /// The greatest number of a chunk that requests went to.
+    newest: Option<u64>,
+    /// What requests took beside their entries that were answered since that was last asked for, in
+    /// bytes.
+    answered: u64,
+    /// What was accepted since that was last asked for.
+    accepted: Accepted,
+}
+
+impl<'a> OutputRoute<'a> {
+    /// An output that gave no tickets yet.
+    pub fn new(alloc: Global, output: &'a Output, timer: &'a mut FlushTimer) -> OutputRoute<'a>
+        ensures { (routes : List (List (List ℕ))) → HoldsRouted routes result.open_tickets }
+    {
+        OutputRoute {
+            alloc,
+            output,
+            open_tickets: OpenTickets::new(alloc),
+            timer,
+            newest: None,
+            answered: 0,
+            accepted: Accepted::NOTHING,
+        }
+    }
+
+    /// Admits a connection's request at a moment (milliseconds), as the output of this number, and
+    /// keeps its ticket. Where memory is refused for keeping it, its entries stay, and it
+    /// is as if the request was not admitted. So it is where the ticket tells another number: an
+    /// output that stands at another's place answers nobody.
+    pub fn admit<R: Wait>(
+        &mut self,
+        rt: &R,
+        number: u16,
+        backlog: Backlog,
+        asked: (Origin, Batch),
+        now: u64,
+    ) -> Result<(), AdmitRefusal>
+        ensures kept { OnOk result
+            (KeepsTicketOf number self.old.open_tickets asked self.new.open_tickets) }
+        ensures same { OnErr result (AreSame self.old.open_tickets self.new.open_tickets) }
+    {
+        let shared = &self.output.shared;
+        let (origin, batch) = asked;
+        let silent = silent_entries(&batch);
+        let bytes = batch.entries().len() as u64;
+        let ticket = match shared.admit(rt, self.alloc, &mut (), origin, batch, now) {
+            Ok(ticket) => ticket,
+            Err((refusal, _)) => return Err(refusal),
+        };
+        self.timer.admitted();
+        self.accepted = Accepted {
+            without_ack: self.accepted.without_ack.saturating_add(silent),
+            bytes: self.accepted.bytes.saturating_add(bytes),
+        };
+        if ticket.output() != number {
+            shared.abandon(rt, ticket);
+            return Err(AdmitRefusal::NotNow);
+        }
+        self.wake_for(&ticket);
+        match self.open_tickets.keep(backlog, ticket) {
+            Ok(()) => Ok(()),
+            Err(ticket) => {
+                shared.abandon(rt, ticket);
+                Err(AdmitRefusal::Memory)
+            }
+        }
+    }
+
+    /// Wakes a worker where a request may have closed a chunk by its size. That happens only where
+    /// the next chunk of a tag is opened, which has a greater number than all before it. So has the
+    /// first chunk of a tag, which closes none: each chunk wakes at most once here.
+    fn wake_for(&mut self, ticket: &Ticket)
+        ensures { self.new.open_tickets ≡ self.old.open_tickets }
+    {
+        let Some(last) = ticket.spans().last() else {
+            return;
+        };
+        let is_new = match self.newest {
+            None => true,
+            Some(newest) => newest < last.number,
+        };
+        if is_new {
+            self.newest = Some(last.number);
+            self.output.wake(1);
+        }
+    }
+
+    /// Closes the chunks that are due at a moment (milliseconds) after all admissions, and wakes a
+    /// worker for each. Where no worker looks for a chunk, what is due is left open for more
+    /// entries: the next worker to look closes it. Where it is urgent, since sources wait for room
+    /// or the relay drains, all chunks are due: only what is sent makes room.
+    pub fn flush<R: Wait>(&mut self, rt: &R, now: u64, is_urgent: bool)
+        ensures { self.new.open_tickets ≡ self.old.open_tickets }
+    {
+        self.timer.look(now);
+        let is_due = self.timer.due().is_some_and(|due| due <= now);
+        if is_due {
+            self.timer.flushed(now);
+        }
+        if !is_due && !is_urgent {
+            return;
+        }
+        if self.output.is_awaited() {
+            let count = self.output.shared.flush(rt, now, kind_of(is_urgent));
+            self.output.wake(count);
+        } else if is_urgent {
+            self.timer.hasten(now);
+        }
+    }
+
+    /// Hands in tickets that are due, block by block, and tells the sources of their receipts: some
+    /// hundred, the others when it is called again. The only error is out of memory, and then those
+    /// that were last handed in are to be handed in still.
+    #[tactic(auto, using(crate::proofs::Told::nothing, crate::proofs::Told::no_round))]
+    pub fn collect<R: Wait>(
+        &mut self,
+        rt: &R,
+        connections: &mut Connections,
+    ) -> Result<(), AllocError>
+        ensures each { OnOk result (Collects
+            self.old.open_tickets (sources_in connections.old)
+            self.new.open_tickets (sources_in connections.new)) }
+        ensures whole { OnOk result (CollectsWhole BLOCKS
+            self.old.open_tickets (sources_in connections.old)
+            self.new.open_tickets (sources_in connections.new)) }
+        ensures part { OnErr result (CollectsInPart
+            self.old.open_tickets (sources_in connections.old)
+            self.new.open_tickets (sources_in connections.new)) }
+        ensures routed { (routes : List (List (List ℕ))) → HoldsRouted routes self.old.open_tickets
+            → HoldsRouted routes self.new.open_tickets }
+        ensures promised { (routes : List (List (List ℕ)))
+            → HoldsRouted routes self.old.open_tickets
+            → TellsPromised routes (sources_in connections.old) (sources_in connections.new) }
+    {
+        for _ in 0..BLOCKS {
+            if !self.open_tickets.is_due() {
+                break;
+            }
+            let receipts = self.open_tickets.hand_in(rt, self.alloc, self.output)?;
+            connections.tell_all(&receipts);
+            self.answered = self.answered.saturating_add(upkeep_of(&receipts));
+        }
+        Ok(())
+    }
+
+    /// What requests took beside their entries that were answered since the last call, in bytes.
+    pub fn take_answered(&mut self) -> u64
+        ensures { self.new.open_tickets ≡ self.old.open_tickets }
+    {
+        mem::replace(&mut self.answered, 0)
+    }
+
+    /// What was accepted since the last call.
+    pub fn take_accepted(&mut self) -> Accepted
+        ensures { self.new.open_tickets ≡ self.old.open_tickets }
+    {
+        mem::replace(&mut self.accepted, Accepted::NOTHING)
+    }
+
+    /// The tickets that are left are abandoned.
+    pub fn close<R: Wait>(self, rt: &R) {
+        let OutputRoute {
+            alloc: _,
+            output,
+            open_tickets,
+            timer: _,
+            newest: _,
+            answered: _,
+            accepted: _,
+        } = self;
+        open_tickets.close(rt, output);
+    }
+}

@@ -1,0 +1,575 @@
+//! The outputs as a reader sees them, and which tags go to which.
+
+ghost use Rattle.std.specs.Prelude.{
+  ◌≡◌,
+  ◌≢◌,
+  ◌⊎◌,
+  ◌<◌,
+  ℕ,
+  Some,
+  true,
+  false,
+  map,
+  length,
+  All,
+  IfOk,
+  IfErr,
+  OnOk,
+  OnErr,
+};
+ghost use Rattle.fwd_match.specs.Patterns.{route};
+ghost use Rattle.fwd_peers.specs.Peers.{first_route};
+ghost use Rattle.fwd_reader.specs.Admissions.{
+  Admits,
+  AdmitsAndRefuses,
+  AdmitsAndWaits,
+  AdmitsEach,
+  Enters,
+  IsDeclined,
+  Refuses,
+};
+ghost use Rattle.fwd_reader.specs.Collections.{CollectsInPart, CollectsWhole};
+ghost use Rattle.fwd_reader.specs.OpenConnections.{sources_in};
+ghost use Rattle.fwd_reader.specs.OpenTickets.{AreAllSame, AreQuiet, TellsDue, all_due, due_at};
+ghost use Rattle.fwd_reader.specs.Promises.{TellsPromised};
+ghost use Rattle.fwd_reader.specs.Rounds.{
+  ChangesAt,
+  CollectsAll,
+  CollectsEach,
+  CollectsOnce,
+  most_rounds,
+};
+ghost use Rattle.fwd_reader.specs.Settlements.{Hears, HearsOf, SettlesAt};
+
+use crate::admission::Admission;
+use crate::connections::Connections;
+use crate::flush_timer::FlushTimer;
+use crate::open_tickets::Backlog;
+use crate::output::{Output, sized};
+use crate::output_route::OutputRoute;
+use fwd_book::AdmitRefusal;
+use fwd_environment::WorkerEvent;
+use fwd_links::Notices;
+use fwd_match::Routes;
+use fwd_modes::{Batch, Origin};
+use fwd_monitors::{Accepted, JournalEvent, MemoryFor, Observer, SharedTally};
+use fwd_peers::{CloseReason, SourcePeer, upkeep};
+use std::alloc::{AllocError, AllocFailed, Global};
+use std::marker::Model;
+use std::sync::Wait;
+
+/// The most rounds of collecting at the end of a run.
+const ROUNDS: u32 = 1 << 20;
+
+/// How many bytes are kept in reserve for collecting receipts: what is settled is given back only
+/// once they are collected. Without this reserve a relay whose memory the sources have used up
+/// would stand still with all its entries settled.
+const RESERVE: usize = 1 << 20;
+
+/// Why a source's first request that waits is not admitted.
+#[derive(Clone, Copy)]
+enum NotAdmitted {
+    /// It ends the source.
+    Ends(CloseReason),
+    /// It waits until something was answered, or settled.
+    Waits,
+}
+
+/// The outputs, in the settings' order, and which tags go to which. They must be spent: by `close`.
+pub struct Router<'a> {
+    alloc: Global,
+    routes: &'a Routes,
+    /// Who may enter each output, and who waits.
+    admission: Admission<'a>,
+    all: Vec<OutputRoute<'a>>,
+    /// Nothing is ever put into it: where memory is refused for receipts it is given back.
+    reserve: Vec<u8>,
+}
+
+impl<'a> Model for Router<'a> {
+    ghost use Rattle.std.specs.Prelude.{All};
+    ghost use Rattle.fwd_reader.specs.Routers.{RouterShown, stores_of};
+    ghost use Rattle.fwd_reader.specs.Promises.{HoldsRouted};
+
+    ghost Value = { RouterShown };
+
+    ghost view = { λ o. record { routes = o.routes.now; stores = stores_of o.all.items } };
+
+    ghost invariant = { λ o. All (HoldsRouted o.routes.now) (stores_of o.all.items) };
+}
+
+/// The outputs' tickets are abandoned.
+fn close_all<R: Wait>(rt: &R, router: Vec<OutputRoute<'_>>) {
+    let mut rest = router.into_iter();
+    while let Some(output_route) = rest.next() {
+        output_route.close(rt);
+    }
+    rest.destroy_empty();
+}
+
+/// What a router is made of: the number of its reader, where requests go, and the timer of each
+/// output.
+#[derive(Drop)]
+pub struct RouterParts<'a> {
+    pub reader: usize,
+    pub routes: &'a Routes,
+    pub outputs: &'a [Output],
+    pub timers: &'a mut [FlushTimer],
+}
+
+impl<'a> Router<'a> {
+    /// The outputs as a reader sees them, where no ticket is out. The only error is out of memory.
+    pub fn new<R: Wait>(
+        rt: &R,
+        alloc: Global,
+        parts: RouterParts<'a>,
+    ) -> Result<Router<'a>, AllocError>
+        ensures { IfOk result (λ router. router.routes ≡ parts.entry.routes.now) }
+    {
+        let RouterParts {
+            reader,
+            routes,
+            outputs,
+            timers,
+        } = parts;
+        let admission = Admission::new(alloc, outputs, reader)?;
+        let mut all = Vec::new(alloc);
+        for (output, timer) in outputs.iter().zip(timers) {
+            let output_route = OutputRoute::new(alloc, output, timer);
+            if let Err(
+                AllocFailed {
+                    value: output_route,
+                },
+            ) = all.push(output_route)
+            {
+                output_route.close(rt);
+                close_all(rt, all);
+                return Err(AllocError);
+            }
+        }
+        let mut reserve = Vec::new(alloc);
+        let _ = reserve.reserve(RESERVE);
+        Ok(Router {
+            alloc,
+            routes,
+            admission,
+            all,
+            reserve,
+        })
+    }
+
+    /// Admits the requests that wait at a source at a moment (milliseconds), and says whether some
+    /// have to wait longer. A request that is refused ends the source, and what waits behind it is
+    /// not looked at.
+    pub fn admit_all<R: Wait>(&mut self, rt: &R, source: &mut SourcePeer, now: u64) -> bool
+        ensures waits { result ≡ true → AdmitsAndWaits self.old.routes self.old.stores source.old
+            self.new.stores source.new }
+        ensures done { result ≡ false
+            → AdmitsEach self.old.routes self.old.stores source.old self.new.stores source.new
+            ⊎ AdmitsAndRefuses self.old.routes self.old.stores source.old
+            self.new.stores source.new }
+        ensures routes { self.new.routes ≡ self.old.routes }
+    {
+        for _ in 0..source.waiting() {
+            let bytes = source.asked_bytes() as u64;
+            match self.admit(rt, source, now) {
+                Ok(()) => {}
+                Err(NotAdmitted::Waits) => return true,
+                Err(NotAdmitted::Ends(why)) => {
+                    source.refuse(sized(self.admission.outputs, why, bytes));
+                    return false;
+                }
+            }
+        }
+        false
+    }
+
+    /// Admits the first request that waits, at the first output whose pattern matches its tag. Or
+    /// it waits longer, and then nothing has changed.
+    fn admit<R: Wait>(
+        &mut self,
+        rt: &R,
+        source: &mut SourcePeer,
+        now: u64,
+    ) -> Result<(), NotAdmitted>
+        ensures admitted { OnOk result (Admits self.old.routes self.old.stores source.old
+            self.new.stores source.new) }
+        ensures waits { IfErr result (λ why. why ≡ NotAdmitted.Waits
+            → (self.new ≡ self.old) × (source.new ≡ source.old)) }
+        ensures named { IfErr result (λ why. why ≡ NotAdmitted.Waits
+            → (number : ℕ) × (first_route self.old.routes source.old ≡ Some number)) }
+        ensures refused { IfErr result (λ why. (reason : CloseReason)
+            → why ≡ NotAdmitted.Ends reason
+            → Refuses self.old.routes self.old.stores source.old reason
+            self.new.stores source.new) }
+        ensures routes { self.new.routes ≡ self.old.routes }
+    {
+        let Some(output) = source.route(self.routes) else {
+            return Err(NotAdmitted::Ends(CloseReason::NoRoute));
+        };
+        if !self.admission.ask(rt, output, source) {
+            return Err(NotAdmitted::Waits);
+        }
+        let backlog = Backlog::of(source);
+        let bytes = source.asked_bytes() as u64;
+        let Some(asked) = source.next() else {
+            self.admission.release(rt, output, bytes);
+            let refusal = AdmitRefusal::Memory;
+            return Err(NotAdmitted::Ends(CloseReason::Refused(output, refusal)));
+        };
+        let owed = upkeep(asked.1.tag(), asked.1.chunk()) as u64;
+        let entered = self.enter(rt, output, backlog, asked, now);
+        self.admission.release(rt, output, bytes);
+        entered?;
+        self.admission.owes(output, owed);
+        Ok(())
+    }
+
+    /// Enters a request at a moment (milliseconds) at the output of this number, which the routes
+    /// name first for its tag: that output keeps its ticket.
+    fn enter<R: Wait>(
+        &mut self,
+        rt: &R,
+        output: u16,
+        backlog: Backlog,
+        asked: (Origin, Batch),
+        now: u64,
+    ) -> Result<(), NotAdmitted>
+        requires { route self.old.routes asked.1.tag ≡ Some output }
+        ensures entered { OnOk result
+            (Enters self.old.stores output asked self.new.stores) }
+        ensures ends { IfErr result (λ why. why ≢ NotAdmitted.Waits) }
+        ensures declined { IfErr result (λ why. (reason : CloseReason)
+            → why ≡ NotAdmitted.Ends reason
+            → IsDeclined self.old.stores output reason) }
+        ensures same { OnErr result (AreAllSame self.old.stores self.new.stores) }
+        ensures routes { self.new.routes ≡ self.old.routes }
+    {
+        let Some(output_route) = self.all.get_mut(output as usize) else {
+            return Err(NotAdmitted::Ends(CloseReason::NoRoute));
+        };
+        if let Err(refusal) = output_route.admit(rt, output, backlog, asked, now) {
+            return Err(NotAdmitted::Ends(CloseReason::Refused(output, refusal)));
+        }
+        Ok(())
+    }
+
+    /// A source goes: it waits at no output any more, and whoever is next in line may be admitted.
+    pub fn leave<R: Wait>(&mut self, rt: &R, source: &mut SourcePeer)
+        ensures this { self.new ≡ self.old }
+        ensures source { source.new ≡ source.old }
+    {
+        self.admission.leave(rt, source);
+    }
+
+    /// Whether something was settled or answered since the last call: requests that wait may be
+    /// admitted now.
+    pub fn has_moved(&mut self) -> bool
+        ensures { self.new ≡ self.old }
+    {
+        self.admission.take_moved()
+    }
+
+    /// Whether a source that waits has its turn now by other readers, which is looked at again; and
+    /// an observer is told at which outputs sources wait, at a moment (milliseconds).
+    pub fn tend<R: Wait, W: Observer>(&mut self, rt: &R, observer: &mut W, now: u64)
+        ensures { self.new.routes ≡ self.old.routes }
+    {
+        self.admission.tend(rt, observer, now);
+    }
+
+    /// Whether another reader has its turn at an output from now on: then all are to be called.
+    pub fn passes_on(&self) -> bool {
+        self.admission.passes_on()
+    }
+
+    /// The reader is about to sleep: where an output owes it nothing and none of its sources waits
+    /// for room, it need not hear of what is settled.
+    pub fn rest(&self) {
+        self.admission.rest();
+    }
+
+    /// How long the loop may wait from a moment on, at most so long: until the next flush (all in
+    /// milliseconds).
+    pub fn patience(&self, now: u64, longest: u64) -> u64 {
+        if self.admission.is_moved() {
+            return 0;
+        }
+        let mut wait = longest;
+        for output_route in &self.all {
+            if output_route.open_tickets.is_due() {
+                return 0;
+            }
+            if let Some(due) = output_route.timer.due() {
+                wait = wait.min(due.saturating_sub(now));
+            }
+        }
+        wait
+    }
+
+    /// Closes the chunks that are due at a moment (milliseconds) after all admissions; and all of
+    /// an output at which sources wait for room, or of each where the relay drains, where a worker
+    /// could send them.
+    pub fn flush<R: Wait>(&mut self, rt: &R, now: u64, is_draining: bool)
+        ensures { self.new.routes ≡ self.old.routes }
+    {
+        for place in 0..self.all.len() {
+            self.flush_at(rt, place, now, is_draining);
+        }
+    }
+
+    /// Closes those of the output at a place.
+    fn flush_at<R: Wait>(&mut self, rt: &R, place: usize, now: u64, is_draining: bool)
+        ensures { self.new.routes ≡ self.old.routes }
+    {
+        let has_waiting = self.admission.has_waiting(place);
+        let Some(output_route) = self.all.get_mut(place) else {
+            return;
+        };
+        output_route.flush(rt, now, has_waiting | is_draining);
+    }
+
+    /// Counts what was accepted since the last call.
+    pub fn count<R: Wait>(&mut self, rt: &R, tally: &SharedTally)
+        ensures { self.new ≡ self.old }
+    {
+        for number in 0..u16::MAX {
+            if self.all.len() <= number as usize {
+                break;
+            }
+            if let Some(accepted) = self.take_accepted(number) {
+                tally.accept(rt, number, accepted);
+            }
+        }
+    }
+
+    /// What the output of this number accepted since the last call.
+    fn take_accepted(&mut self, number: u16) -> Option<Accepted>
+        ensures { self.new ≡ self.old }
+    {
+        let Some(output_route) = self.all.get_mut(number as usize) else {
+            return None;
+        };
+        Some(output_route.take_accepted())
+    }
+
+    /// Workers settled chunks: the tickets that waited for those are to be handed in.
+    pub fn hear(&mut self, notices: &Notices)
+        ensures heard { Hears notices.now self.old.stores self.new.stores }
+        ensures routes { self.new.routes ≡ self.old.routes }
+    {
+        if notices.missed {
+            self.settle_all();
+        }
+        for notice in &notices.all {
+            self.hear_of(notice.output, notice.event);
+        }
+    }
+
+    /// A worker of the output of this number told something.
+    fn hear_of(&mut self, output: u16, event: WorkerEvent)
+        ensures heard { HearsOf output event self.old.stores self.new.stores }
+        ensures routes { self.new.routes ≡ self.old.routes }
+    {
+        if let WorkerEvent::Settled { number, server: _ } = event {
+            self.admission.note_moved();
+            self.settle(output as usize, number);
+        }
+    }
+
+    /// A chunk of the output at a place is settled.
+    fn settle(&mut self, place: usize, chunk: u64)
+        ensures settled { SettlesAt self.old.stores place chunk self.new.stores }
+        ensures routes { self.new.routes ≡ self.old.routes }
+    {
+        let Some(output_route) = self.all.get_mut(place) else {
+            return;
+        };
+        output_route.open_tickets.settle(chunk);
+    }
+
+    /// All tickets are to be handed in.
+    pub(crate) fn settle_all(&mut self)
+        ensures due { self.new.stores ≡ map all_due self.old.stores }
+        ensures routes { self.new.routes ≡ self.old.routes }
+    {
+        self.admission.note_moved();
+        for place in 0..self.all.len() {
+            self.settle_at(place);
+        }
+    }
+
+    /// All tickets of the output at a place are to be handed in.
+    fn settle_at(&mut self, place: usize)
+        ensures due { self.new.stores ≡ due_at place self.old.stores }
+        ensures routes { self.new.routes ≡ self.old.routes }
+    {
+        let Some(output_route) = self.all.get_mut(place) else {
+            return;
+        };
+        output_route.open_tickets.settle_all();
+    }
+
+    /// Hands in tickets that are due, each at its output, and tells the sources of their receipts:
+    /// of each output some hundred. Where memory is refused for them what is kept in reserve is
+    /// given back, and they are collected again. It says whether more are due, but for those that
+    /// memory was refused for.
+    #[tactic(auto, using(crate::proofs::Told::nothing, crate::proofs::Told::on))]
+    pub fn collect<R: Wait, W: Observer>(
+        &mut self,
+        rt: &R,
+        connections: &mut Connections,
+        observer: &mut W,
+    ) -> bool
+        ensures promised { TellsPromised self.old.routes
+            (sources_in connections.old) (sources_in connections.new) }
+        ensures each { CollectsEach self.old.stores (sources_in connections.old) result
+            self.new.stores (sources_in connections.new) }
+        ensures routes { self.new.routes ≡ self.old.routes }
+    {
+        self.refill();
+        let mut is_more = false;
+        for number in 0..u16::MAX {
+            if self.all.len() <= number as usize {
+                break;
+            }
+            is_more = self.collect_at(rt, number, connections, observer) || is_more;
+            self.note_answered(number);
+        }
+        is_more
+    }
+
+    /// Memory is taken into reserve where none is there.
+    fn refill(&mut self)
+        ensures { self.new ≡ self.old }
+    {
+        if self.reserve.capacity() > 0 {
+            return;
+        }
+        let _ = self.reserve.reserve(RESERVE);
+    }
+
+    /// The same of the output of this number, if there is one.
+    #[tactic(auto, using(crate::proofs::Told::on))]
+    fn collect_at<R: Wait, W: Observer>(
+        &mut self,
+        rt: &R,
+        number: u16,
+        connections: &mut Connections,
+        observer: &mut W,
+    ) -> bool
+        ensures promised { TellsPromised self.old.routes
+            (sources_in connections.old) (sources_in connections.new) }
+        ensures once { number < length self.old.stores → ChangesAt
+            (λ s t. CollectsOnce s (sources_in connections.old) result
+            t (sources_in connections.new))
+            self.old.stores number self.new.stores }
+        ensures routes { self.new.routes ≡ self.old.routes }
+    {
+        if let Ok(is_more) = self.try_collect(rt, number, connections) {
+            return is_more;
+        }
+        self.reserve = Vec::new(self.alloc);
+        match self.try_collect(rt, number, connections) {
+            Ok(is_more) => is_more,
+            Err(_) => {
+                observer.observe(JournalEvent::Memory(MemoryFor::Output(number)));
+                false
+            }
+        }
+    }
+
+    /// The same, with the memory that is to be had. The only error is out of memory.
+    #[tactic(auto, using(crate::proofs::Told::nothing))]
+    fn try_collect<R: Wait>(
+        &mut self,
+        rt: &R,
+        number: u16,
+        connections: &mut Connections,
+    ) -> Result<bool, AllocError>
+        ensures promised { TellsPromised self.old.routes
+            (sources_in connections.old) (sources_in connections.new) }
+        ensures whole { number < length self.old.stores → IfOk result (λ more. ChangesAt
+            (λ s t. CollectsWhole most_rounds s (sources_in connections.old)
+            t (sources_in connections.new) × TellsDue more t)
+            self.old.stores number self.new.stores) }
+        ensures part { number < length self.old.stores → OnErr result (ChangesAt
+            (λ s t. CollectsInPart s (sources_in connections.old)
+            t (sources_in connections.new))
+            self.old.stores number self.new.stores) }
+        ensures routes { self.new.routes ≡ self.old.routes }
+    {
+        let Some(output_route) = self.all.get_mut(number as usize) else {
+            return Ok(false);
+        };
+        output_route.collect(rt, connections)?;
+        Ok(output_route.open_tickets.is_due())
+    }
+
+    /// What was answered at the output of this number is owed no more.
+    fn note_answered(&mut self, number: u16)
+        ensures { self.new ≡ self.old }
+    {
+        let bytes = self.take_answered(number);
+        self.admission.answered(number, bytes);
+    }
+
+    /// What requests took beside their entries that the output of this number answered since the
+    /// last call, in bytes.
+    fn take_answered(&mut self, number: u16) -> u64
+        ensures { self.new ≡ self.old }
+    {
+        let Some(output_route) = self.all.get_mut(number as usize) else {
+            return 0;
+        };
+        output_route.take_answered()
+    }
+
+    /// Hands in all tickets, and tells the sources of their receipts.
+    #[tactic(auto, using(crate::proofs::Told::nothing, crate::proofs::Told::on))]
+    pub fn collect_all<R: Wait, W: Observer>(
+        &mut self,
+        rt: &R,
+        connections: &mut Connections,
+        observer: &mut W,
+    )
+        ensures promised { TellsPromised self.old.routes
+            (sources_in connections.old) (sources_in connections.new) }
+        ensures all { CollectsAll ROUNDS self.old.stores (sources_in connections.old)
+            self.new.stores (sources_in connections.new) }
+        ensures routes { self.new.routes ≡ self.old.routes }
+    {
+        self.settle_all();
+        for _ in 0..ROUNDS {
+            if !self.is_due() {
+                return;
+            }
+            self.collect(rt, connections, observer);
+        }
+    }
+
+    /// Whether there are tickets to be handed in.
+    fn is_due(&self) -> bool
+        ensures quiet { result ≡ false → All AreQuiet self.now.stores }
+        ensures due { result ≡ true → ¬ (All AreQuiet self.now.stores) }
+    {
+        for output_route in &self.all {
+            if output_route.open_tickets.is_due() {
+                return true;
+            }
+        }
+        false
+    }
+
+    /// The tickets that are left are abandoned.
+    pub fn close<R: Wait>(self, rt: &R) {
+        let Router {
+            alloc: _,
+            routes: _,
+            admission: _,
+            all,
+            reserve: _,
+        } = self;
+        close_all(rt, all);
+    }
+}

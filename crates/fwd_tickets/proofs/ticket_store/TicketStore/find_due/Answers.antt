@@ -1,8 +1,0 @@
-use Rattle.std.proofs.Common.{◌≡◌, [], true, false, inr, arith, subst}
-use Rattle.fwd_tickets.specs.Stores.{Looks}
-use Rattle.fwd_tickets.proofs.ticket_store.TicketStore.find_due.Goals as goal
-
-pub returns-then-self : goal.returns-then-self
-returns-then-self c =
-    subst (λ s. Looks s c.find_least.new.self) c.self.view_is
-    (inr (inr (grind arith, grind arith, c.if-self.true, c.find_least.ensures.found, grind arith)))

@@ -1,0 +1,7 @@
+-- To be believed: Draining, what is seen of a relay that was asked to stop; Visits, what is known of
+-- a source behind a visit, and what becomes of it; and Ids, that no id is given twice.
+pub mod Draining
+pub mod Visits
+pub mod Ids
+-- Of the crate below, for those above: Ends, which says how the counts at a run's end fit together.
+pub use Rattle.fwd_reader.specs.Ends

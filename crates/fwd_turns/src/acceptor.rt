@@ -1,0 +1,339 @@
+//! Where connections come in.
+
+ghost use Rattle.std.specs.Prelude.{◌≡◌, ◌<◌, None, Some, IfOk, IfSome};
+ghost use Rattle.fwd_turns.specs.Ids.{IsNoLess};
+
+use crate::places::{PlaceRule, free_place, is_crowded};
+use fwd_handshake::{Nonces, Security};
+use fwd_listeners::tokens::{MONITORS as MONITOR_TOKEN, SOURCES};
+use fwd_listeners::{Arrival, Listener};
+use fwd_monitors::{JournalEvent, ListenerKind, MemoryFor, MonitorPeer, Observer, StartFault};
+use fwd_msgpack::Limits;
+use fwd_peers::{PeerAddress, PeerSocket, SourcePeer};
+use fwd_reader::{Connections, Peer, ReaderInboxes, Router};
+use fwd_source::Source;
+use mio::{Poll, Registry, Token};
+use rand_chacha::ChaCha20Rng;
+use std::alloc::{AllocError, Global};
+use std::net::{Net, SocketAddr};
+use std::rt::Files;
+use std::sync::{Arc, Wait};
+
+/// The most connections that are taken in a turn at one listener.
+const ACCEPTS: u16 = 1_024;
+
+/// The most monitors at a time.
+pub const MONITORS: usize = 16;
+
+/// Where the relay listens, and how many sources it takes.
+#[derive(Clone, Copy)]
+pub struct ListenConfig {
+    pub listen: PeerAddress,
+    pub monitor: Option<SocketAddr>,
+    /// Monitors are served the metrics page.
+    pub has_metrics: bool,
+    /// The most sources at a time, of all readers together.
+    pub connections: u64,
+    /// There are several outputs.
+    pub has_other_outputs: bool,
+    /// How many files the process may have open, where that leaves fewer than are set.
+    pub few_files: Option<u64>,
+}
+
+/// What a source that comes is given.
+pub struct SourceSetup {
+    /// What it has to prove.
+    pub security: Arc<Security>,
+    /// How long and how deep its values may be.
+    pub limits: Limits,
+    /// Where the random bytes of its handshake come from.
+    pub nonces: ChaCha20Rng,
+}
+
+// A drop of its own is proved once, and not at each place where what sources are given goes.
+impl Drop for SourceSetup {
+    fn drop(self) {
+        let SourceSetup {
+            security: _,
+            limits: _,
+            nonces: _,
+        } = self;
+    }
+}
+
+/// The listeners, and what a source that comes is given.
+pub(crate) struct Acceptor {
+    pub sources: Listener,
+    pub monitors: Option<Listener>,
+    /// Monitors are served the metrics page.
+    pub has_metrics: bool,
+    pub setup: SourceSetup,
+    /// The id of the next source, while there is one: they rise from 1.
+    pub next_id: Option<u64>,
+    /// The most sources at a time, of all readers together.
+    pub limit: usize,
+    /// There are several outputs: sources that wait at some leave places to those of others.
+    pub has_other_outputs: bool,
+    /// The moment (milliseconds) at which an idle source was looked for last and none was found.
+    pub none_idle: Option<u64>,
+    /// How many files the process may have open, where that leaves fewer sources than are set.
+    pub few_files: Option<u64>,
+}
+
+// A drop of its own is proved once, and not at each place where an acceptor goes.
+impl Drop for Acceptor {
+    fn drop(self) {
+        let Acceptor {
+            sources: _,
+            monitors: _,
+            has_metrics: _,
+            setup: _,
+            next_id: _,
+            limit: _,
+            has_other_outputs: _,
+            none_idle: _,
+            few_files: _,
+        } = self;
+    }
+}
+
+/// Where connections go that come at a moment.
+#[derive(Drop)]
+pub(crate) struct Incoming<'a, 'p, 'r> {
+    pub alloc: Global,
+    pub registry: &'a Registry,
+    pub connections: &'a mut Connections,
+    /// Where sources of the reader in front may wait.
+    pub router: &'p mut Router<'r>,
+    /// The inboxes of all readers.
+    pub inboxes: &'a ReaderInboxes,
+    /// How long a source has to be silent that gives its place to a new one (milliseconds), if any
+    /// does.
+    pub idle_limit: Option<u64>,
+    /// In milliseconds.
+    pub now: u64,
+}
+
+impl<'a, 'p, 'r> Incoming<'a, 'p, 'r> {
+    /// A connection comes. Where the system or memory refuses it, which is the only error, it is
+    /// dropped.
+    fn add(&mut self, connection: Peer) -> Result<(), AllocError> {
+        self.connections.add(self.registry, connection, self.now)
+    }
+}
+
+impl SourceSetup {
+    /// The source of this id, before its first byte. The only error is out of memory.
+    fn source(&mut self, alloc: Global, id: u64) -> Result<Source, AllocError>
+        ensures { IfOk result (λ source. source.live.setup.conn ≡ id) }
+    {
+        let security = Arc::try_clone(&self.security)?;
+        let nonces = Nonces::draw(&mut self.nonces);
+        Ok(Source::new(alloc, id, security, nonces, self.limits)?)
+    }
+}
+
+impl Acceptor {
+    /// The listeners, which the reader in front waits for by this poll. It fails with `Listen`.
+    pub fn open<R: Net + Files>(
+        rt: &R,
+        poll: &Poll,
+        config: ListenConfig,
+        setup: SourceSetup,
+    ) -> Result<Acceptor, StartFault> {
+        let sources = Listener::open(rt, poll, config.listen, SOURCES)?;
+        let monitors = match config.monitor {
+            Some(monitor) => {
+                let address = PeerAddress::Tcp(monitor);
+                Some(Listener::open(rt, poll, address, MONITOR_TOKEN)?)
+            }
+            None => None,
+        };
+        Ok(Acceptor {
+            sources,
+            monitors,
+            has_metrics: config.has_metrics,
+            setup,
+            next_id: Some(1),
+            limit: config.connections as usize,
+            has_other_outputs: config.has_other_outputs,
+            none_idle: None,
+            few_files: config.few_files,
+        })
+    }
+
+    /// One of the listeners told that connections wait.
+    pub fn notified(&mut self, token: Token) {
+        if token == SOURCES {
+            self.sources.notified();
+        } else if let Some(listener) = &mut self.monitors {
+            listener.notified();
+        }
+    }
+
+    /// Whether the next wait is to be short.
+    pub fn is_urgent(&self) -> bool {
+        self.sources.is_urgent() || self.monitors.as_ref().is_some_and(|it| it.is_urgent())
+    }
+
+    /// Tells where connections come in, and where fewer than are set are taken.
+    pub fn tell<W: Observer>(&self, observer: &mut W) {
+        if let Some(files) = self.few_files {
+            let sources = self.limit;
+            observer.observe(JournalEvent::FewFiles { files, sources });
+        }
+        observer.observe(JournalEvent::Listening {
+            listener: ListenerKind::Source,
+            address: self.sources.address(),
+        });
+        if let Some(listener) = &self.monitors {
+            observer.observe(JournalEvent::Listening {
+                listener: ListenerKind::Monitor,
+                address: listener.address(),
+            });
+        }
+    }
+
+    /// Takes the sources that wait. One too many takes the place of one that is idle, or is closed
+    /// at once. It says whether memory was refused for one.
+    #[tactic(auto, using(crate::proofs::Ids::later, crate::proofs::Ids::same))]
+    pub fn accept_sources<R: Wait, W: Observer>(
+        &mut self,
+        rt: &R,
+        incoming: &mut Incoming<'_, '_, '_>,
+        observer: &mut W,
+    ) -> bool
+        ensures { IsNoLess self.old.next_id self.new.next_id }
+    {
+        for _ in 0..ACCEPTS {
+            let (socket, peer) = match self.sources.next() {
+                Arrival::Came(socket, peer) => (socket, peer),
+                Arrival::Starved => {
+                    observer.observe(JournalEvent::Descriptors(ListenerKind::Source));
+                    return false;
+                }
+                Arrival::None => return false,
+            };
+            let is_full = incoming.inboxes.sources() >= self.limit;
+            if is_full && !self.free_place(rt, incoming, observer) {
+                let listener = ListenerKind::Source;
+                observer.observe(JournalEvent::OverLimit { listener, peer });
+            } else if self.begin(rt, incoming, socket, peer).is_err() {
+                observer.observe(JournalEvent::Memory(MemoryFor::Source(peer)));
+                return true;
+            }
+        }
+        false
+    }
+
+    /// Closes the source that gives its place, of those that the reader in front has, and says
+    /// whether one does. Where none does, the other readers are asked to do so in their next turns,
+    /// and none is looked for again within the millisecond. One list of all readers' sources would
+    /// be a lock that each read takes.
+    fn free_place<R: Wait, W: Observer>(
+        &mut self,
+        rt: &R,
+        incoming: &mut Incoming<'_, '_, '_>,
+        observer: &mut W,
+    ) -> bool
+        ensures { self.new.next_id ≡ self.old.next_id }
+    {
+        let inboxes = incoming.inboxes;
+        let rule = PlaceRule {
+            idle_limit: incoming.idle_limit,
+            is_crowded: self.has_other_outputs && is_crowded(inboxes.crowding(), self.limit),
+            now: incoming.now,
+        };
+        if self.none_idle == Some(incoming.now) {
+            return false;
+        }
+        if free_place(rt, incoming.connections, incoming.router, observer, rule) {
+            inboxes.front.note(incoming.connections);
+            return true;
+        }
+        self.none_idle = Some(incoming.now);
+        inboxes.ask_others(rule.idle_limit.is_some(), rule.is_crowded);
+        false
+    }
+
+    /// The id of the next source, if one is left. They rise, so that none is given twice.
+    #[tactic(auto, using(crate::proofs::Ids::same))]
+    fn give_id(&mut self) -> Option<u64>
+        ensures given { result ≡ self.old.next_id }
+        ensures rises { IfSome result (λ id. IfSome self.new.next_id (λ next. id < next)) }
+        ensures last { result ≡ None → self.new.next_id ≡ None }
+        ensures later { IsNoLess self.old.next_id self.new.next_id }
+    {
+        let id = self.next_id?;
+        self.next_id = id.checked_add(1);
+        Some(id)
+    }
+
+    /// A source with the next id, if one is left. The only error is out of memory.
+    fn next_source(
+        &mut self,
+        incoming: &Incoming<'_, '_, '_>,
+        socket: PeerSocket,
+        peer: PeerAddress,
+    ) -> Result<Option<SourcePeer>, AllocError>
+        ensures own { IfOk result (λ made. IfSome made (λ source.
+            self.old.next_id ≡ Some source.id)) }
+        ensures once { IfOk result (λ made. IfSome made (λ source.
+            IfSome self.new.next_id (λ next. source.id < next))) }
+        ensures later { IsNoLess self.old.next_id self.new.next_id }
+    {
+        let Some(id) = self.give_id() else {
+            return Ok(None);
+        };
+        let source = self.setup.source(incoming.alloc, id)?;
+        let source = SourcePeer::new(id, socket, peer, source, incoming.now);
+        Ok(Some(source))
+    }
+
+    /// A source begins with the next id, if one is left, at the reader with the fewest. The only
+    /// error is out of memory.
+    #[tactic(auto, using(crate::proofs::Ids::same))]
+    fn begin<R: Wait>(
+        &mut self,
+        rt: &R,
+        incoming: &Incoming<'_, '_, '_>,
+        socket: PeerSocket,
+        peer: PeerAddress,
+    ) -> Result<(), AllocError>
+        ensures { IsNoLess self.old.next_id self.new.next_id }
+    {
+        match self.next_source(incoming, socket, peer)? {
+            None => Ok(()),
+            Some(source) => incoming.inboxes.freest().hand(rt, source),
+        }
+    }
+
+    /// Takes the monitors that wait. One too many is closed at once.
+    pub fn accept_monitors<W: Observer>(
+        &mut self,
+        incoming: &mut Incoming<'_, '_, '_>,
+        observer: &mut W,
+    ) {
+        let Some(listener) = &mut self.monitors else {
+            return;
+        };
+        for _ in 0..ACCEPTS {
+            let (socket, peer) = match listener.next() {
+                Arrival::Came(socket, peer) => (socket, peer),
+                Arrival::Starved => return observer.observe(JournalEvent::Descriptors(
+                    ListenerKind::Monitor,
+                )),
+                Arrival::None => return,
+            };
+            if incoming.connections.monitors() >= MONITORS {
+                let listener = ListenerKind::Monitor;
+                observer.observe(JournalEvent::OverLimit { listener, peer });
+            } else {
+                let monitor = MonitorPeer::new(incoming.alloc, socket, self.has_metrics);
+                if incoming.add(Peer::Monitor(monitor)).is_err() {
+                    observer.observe(JournalEvent::Memory(MemoryFor::Monitor));
+                }
+            }
+        }
+    }
+}

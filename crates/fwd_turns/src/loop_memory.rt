@@ -1,0 +1,92 @@
+//! What a reader's loop knows of memory.
+
+use fwd_links::SharedFlags;
+use fwd_monitors::{JournalEvent, MemoryFor, Observer};
+
+/// How long no source is read once memory was refused for one, in milliseconds. The next to ask
+/// would be refused like it, and closed like it.
+const STARVED: u64 = 1_000;
+
+/// The same where a chunk was settled since, which gives memory back.
+const SETTLED: u64 = 100;
+
+/// How long workers take it that memory may be refused at any moment, once it was for a source, in
+/// milliseconds. They give their reserve back before each step then, without a trial: a source that
+/// is read between the trial and the step may take all that there is.
+const TIGHT: u64 = 3_000;
+
+/// What the loop knows of memory.
+#[derive(Drop)]
+pub(crate) struct LoopMemory {
+    flags: SharedFlags,
+    /// When it was refused for a source last, in milliseconds, if it was.
+    refused: Option<u64>,
+    /// A chunk was settled since.
+    pub is_settled: bool,
+    /// No source was read when the loop came to them last, though some were ready.
+    pub is_paused: bool,
+    /// When that was told last, in milliseconds, if it was.
+    told: Option<u64>,
+    /// It told the workers that memory was refused a short while ago.
+    is_tight: bool,
+}
+
+/// Whether so long (milliseconds) has passed at a moment since another one, if there was any.
+fn is_past(since: Option<u64>, pause: u64, now: u64) -> bool {
+    match since {
+        Some(since) => since.saturating_add(pause) <= now,
+        None => true,
+    }
+}
+
+impl LoopMemory {
+    /// None was refused. The workers tell of theirs by these flags.
+    pub fn new(flags: SharedFlags) -> LoopMemory {
+        LoopMemory {
+            flags,
+            refused: None,
+            is_settled: false,
+            is_paused: false,
+            told: None,
+            is_tight: false,
+        }
+    }
+
+    /// Whether sources are not to be read at a moment (milliseconds): a worker lacks memory, or it
+    /// was refused for a source just now.
+    pub fn is_refused(&self, now: u64) -> bool {
+        let pause = if self.is_settled { SETTLED } else { STARVED };
+        !is_past(self.refused, pause, now) || self.flags.is_lacking()
+    }
+
+    /// Connections are about to be read at a moment (milliseconds).
+    pub fn begin_reading(&mut self, now: u64) {
+        self.is_paused = false;
+        let is_tight = !is_past(self.refused, TIGHT, now);
+        if is_tight != self.is_tight {
+            self.is_tight = is_tight;
+            if is_tight {
+                self.flags.begin_tightness();
+            } else {
+                self.flags.end_tightness();
+            }
+        }
+        self.flags.begin_reading();
+    }
+
+    /// Connections were read from a moment on (milliseconds). Where no source was, that is told,
+    /// once a second at the most.
+    pub fn end_reading<W: Observer>(&mut self, observer: &mut W, start: u64) {
+        self.flags.end_reading();
+        if self.is_paused && is_past(self.told, STARVED, start) {
+            self.told = Some(start);
+            observer.observe(JournalEvent::Memory(MemoryFor::Pause));
+        }
+    }
+
+    /// Memory was refused for a source at a moment (milliseconds).
+    pub fn refuse(&mut self, now: u64) {
+        self.refused = Some(now);
+        self.is_settled = false;
+    }
+}

@@ -1,0 +1,369 @@
+//! How a worker takes a chunk for the session that it has, and loads it there.
+
+ghost use Rattle.std.specs.Prelude.{◌≡◌, ◌⊎◌, Some, None, true, false, IfSome};
+ghost use Rattle.std.specs.Arc.{arc_value};
+ghost use Rattle.fwd_handshake.specs.Draws.{hex_drawn};
+ghost use Rattle.fwd_output.specs.Elsewhere.{away_from, has_server};
+ghost use Rattle.fwd_workers.specs.Endings.{news_of, went_of};
+ghost use Rattle.fwd_workers.specs.Working.{
+  HasGone,
+  HasLoaded,
+  HasLoadedMore,
+  HasTakenFirst,
+  HasTakenNext,
+  setup_by,
+};
+
+use super::Worker;
+use crate::choosing::wants_fresh;
+use crate::denial::denial_in;
+use crate::ending::EndReason;
+use crate::next_chunk::{fresh, pick, unused};
+use crate::turn_context::{Outside, TurnContext};
+use crate::upstream::{IdleUpstream, UpstreamWithRoom, WorkerState};
+use crate::upstream_end::{end_free, give_back};
+use crate::upstream_turn::{allow_close, ended, serve_free, to_end};
+use fwd_chunks::{Carried, FlushKind};
+use fwd_environment::{Clock, Hub, Link, LossReason, WorkerEvent};
+use fwd_output::{Leaving, PickedChunk, Tally};
+use fwd_session::LoadFailed;
+use std::mem;
+use std::sync::Wait;
+
+/// How many chunks that were lost a worker passes by at the most, in search of one that was not.
+const AHEAD: u16 = 256;
+
+impl Worker {
+    /// The next chunk, if there is one; where a server is to be tried that is not known to work,
+    /// one that was not lost before, if there is one. Only now are chunks closed that are due, so
+    /// that entries go on joining them while all workers are at work. That it flushes what is due,
+    /// and takes for this worker, no clause can see through the lock: it is tested.
+    pub(super) fn next_chunk<A: Tally, S: Tally, R: Wait>(
+        &self,
+        context: &TurnContext<'_, A, S, R>,
+        seat: &mut S::Seat,
+        is_doubted: bool,
+    ) -> Option<PickedChunk>
+        ensures { seat.new ≡ seat.old }
+    {
+        context.out.flush(context.rt, context.now, FlushKind::Due);
+        if is_doubted {
+            fresh(context, self.alloc, seat, self.number, AHEAD)
+        } else {
+            pick(context, self.alloc, seat, self.number)
+        }
+    }
+
+    /// A chunk that was taken, and how often it was lost is noted.
+    pub(super) fn note(&mut self, picked: PickedChunk) -> Carried
+        ensures chunk { result ≡ picked.chunk }
+        ensures kept { self.new ≡ record self.old { doubts = self.new.doubts } }
+        ensures noted { self.new.doubts ≡ record self.old.doubts { losses = picked.losses } }
+    {
+        let PickedChunk {
+            chunk,
+            losses,
+            lost_at: _,
+            elsewhere: _,
+        } = picked;
+        self.doubts.losses = losses;
+        chunk
+    }
+
+    /// An upstream without a chunk is kept, unless it is to end.
+    pub(super) fn stand<A: Tally, S: Tally, L: Link, R: Wait>(
+        &mut self,
+        context: &TurnContext<'_, A, S, R>,
+        seat: &mut S::Seat,
+        free: IdleUpstream<L>,
+    ) -> WorkerState<L>
+        ensures same { seat.new ≡ seat.old }
+        ensures stands { free.upstream.ending ≡ None → (result ≡ WorkerState.Standing free)
+            × (free.upstream.session.down ≡ false) × (self.new.event ≡ self.old.event) }
+        ensures ends { IfSome free.upstream.ending (λ why. (result ≡ WorkerState.Idle)
+            × (self.new.event ≡ news_of why free.upstream.session.setup.server 0)) }
+    {
+        match free.upstream.ending {
+            None => WorkerState::Standing(free),
+            Some(ending) => {
+                self.tell_end(ending, free.upstream.session.server());
+                end_free(context, seat, free, None);
+                WorkerState::Idle
+            }
+        }
+    }
+
+    /// A session with a server ended without a chunk, which is told, and what the server said why,
+    /// where it did not let the relay in.
+    fn tell_end(&mut self, ending: EndReason, server: u16)
+        ensures told { self.new.event ≡ news_of ending server 0 }
+        ensures kept { self.new
+            ≡ record self.old { event = self.new.event; doubts = self.new.doubts } }
+    {
+        self.event = ending.event(server, 0);
+        self.doubts.denial = denial_in(ending, server, &self.room);
+    }
+
+    /// Claims a chunk for the session that was sought, once that is ready, and takes it, whatever
+    /// server the worker is to try by then: else it would go again where it was lost. Where the
+    /// output holds nothing any more, the session stands. Where it ends its server is lost, and the
+    /// worker seeks on.
+    pub(super) fn take_first<A: Tally, S: Tally, L: Link, R: Wait>(
+        &mut self,
+        context: &TurnContext<'_, A, S, R>,
+        seat: &mut S::Seat,
+        free: IdleUpstream<L>,
+    ) -> WorkerState<L>
+        ensures same { seat.new ≡ seat.old }
+        ensures taken { free.upstream.ending ≡ None → HasTakenFirst result self.new.event
+            free.upstream.session context.entry.now.now (L.calls free.upstream.link) }
+    {
+        let leaves = mem::replace(&mut self.doubts.leaves, false);
+        if leaves || context.out.counts(context.rt).held == 0 {
+            return WorkerState::Standing(free);
+        }
+        let free = serve_free(context.rt, self.alloc, &mut self.room, free, context.now);
+        if let Some(ending) = free.upstream.ending {
+            let server = free.upstream.session.server();
+            self.miss(context, server);
+            self.tell_end(ending, server);
+            end_free(context, seat, free, None);
+            return WorkerState::Seeking;
+        }
+        if !free.upstream.session.is_ready() {
+            return WorkerState::Sought(free);
+        }
+        context.out.claim(context.rt, context.now);
+        let is_doubted = context
+            .out
+            .is_doubted(context.rt, free.upstream.session.server());
+        match self.next_chunk(context, seat, is_doubted) {
+            Some(picked) => {
+                context.out.release(context.rt);
+                self.keep_or_leave(context, seat, free, picked)
+            }
+            None => WorkerState::Sought(free),
+        }
+    }
+
+    /// Takes a chunk for the session that was sought, which is ready. A chunk that was lost there
+    /// and is to go elsewhere goes back, and the worker leaves the session for it in its next turn.
+    fn keep_or_leave<A: Tally, S: Tally, L: Link, R: Wait>(
+        &mut self,
+        context: &TurnContext<'_, A, S, R>,
+        seat: &mut S::Seat,
+        free: IdleUpstream<L>,
+        picked: PickedChunk,
+    ) -> WorkerState<L>
+        ensures same { seat.new ≡ seat.old }
+        ensures either { (result ≡ WorkerState.Sought free)
+            ⊎ (result ≡ WorkerState.Took free picked.chunk) }
+        ensures keeps { away_from (has_server picked.lost_at.members
+            free.upstream.session.setup.server) picked.elsewhere ≡ None
+            → result ≡ WorkerState.Took free picked.chunk }
+        ensures leaves { IfSome (away_from (has_server picked.lost_at.members
+            free.upstream.session.setup.server) picked.elsewhere)
+            (λ server. (result ≡ WorkerState.Sought free) × (self.new.doubts.leaves ≡ true)) }
+        ensures quiet { self.new ≡ record self.old { doubts = self.new.doubts } }
+    {
+        if picked.away_from(free.upstream.session.server()).is_some() {
+            give_back(context, seat, unused(self.alloc, picked));
+            self.doubts.leaves = true;
+            return WorkerState::Sought(free);
+        }
+        self.doubts.errand = None;
+        WorkerState::Took(free, self.note(picked))
+    }
+
+    /// A session ended before it had a chunk. The chunk that it was sought for, if it was lost
+    /// elsewhere, counts as lost there too.
+    fn miss<A: Tally, S: Tally, R: Wait>(&mut self, context: &TurnContext<'_, A, S, R>, server: u16)
+        ensures { self.new ≡ record self.old { doubts = self.new.doubts } }
+    {
+        if let Some(chunk) = self.doubts.errand.take() {
+            context.out.miss(context.rt, chunk, server);
+        }
+    }
+
+    /// Takes a chunk for the session that stands, unless the server closed it, or, where the chunk
+    /// was not lost before, for one with the server that the worker is to try in its place. Where
+    /// that must log in first, the chunk goes back until then, and any worker may take it. What
+    /// another worker claims is left to it.
+    pub(super) fn take_next<A: Tally, S: Tally, H: Hub, C: Clock, R: Wait>(
+        &mut self,
+        context: &TurnContext<'_, A, S, R>,
+        seat: &mut S::Seat,
+        outside: &mut Outside<'_, H, C>,
+        free: IdleUpstream<H::Line>,
+    ) -> WorkerState<H::Line>
+        ensures same { seat.new ≡ seat.old }
+        ensures taken { free.upstream.ending ≡ None → HasTakenNext result self.new.event
+            free.upstream.session context.entry.now.now (H.Line.calls free.upstream.link)
+            (setup_by (arc_value self.old.login) (hex_drawn 0 4 self.old.rng)
+            self.old.acks context.entry.now.now) }
+    {
+        let free = allow_close(serve_free(
+            context.rt,
+            self.alloc,
+            &mut self.room,
+            free,
+            context.now,
+        ));
+        if free.upstream.ending.is_some() || !free.upstream.session.is_ready() {
+            return self.stand(context, seat, free);
+        }
+        let server_view = context
+            .out
+            .server_view(context.rt, self.number, context.now);
+        if server_view.is_claimed {
+            return WorkerState::Standing(free);
+        }
+        let own = free.upstream.session.server();
+        let Some(picked) = self.next_chunk(context, seat, wants_fresh(server_view, own)) else {
+            return WorkerState::Standing(free);
+        };
+        let to = server_view.way_of(&picked, own);
+        let away = picked.away_from(own);
+        let chunk = self.note(picked);
+        let Some(other) = self.go_over(context, seat, outside, to) else {
+            return self.stay(context, seat, free, chunk, away);
+        };
+        if other.upstream.session.is_ready() {
+            end_free(context, seat, free, None);
+            return WorkerState::Took(other, chunk);
+        }
+        self.doubts.errand = away.map(|_| chunk.number());
+        end_free(context, seat, free, Some(chunk));
+        WorkerState::Sought(other)
+    }
+
+    /// No session could be had in place of the one that stands. A chunk that was lost here counts
+    /// as lost there too, and goes back: it may go to a third server. Any other is taken for the
+    /// session that stands.
+    fn stay<A: Tally, S: Tally, L: Link, R: Wait>(
+        &self,
+        context: &TurnContext<'_, A, S, R>,
+        seat: &mut S::Seat,
+        free: IdleUpstream<L>,
+        chunk: Carried,
+        away: Option<u16>,
+    ) -> WorkerState<L>
+        ensures same { seat.new ≡ seat.old }
+        ensures stays { (result ≡ WorkerState.Standing free)
+            ⊎ (result ≡ WorkerState.Took free chunk) }
+        ensures takes { away ≡ None → result ≡ WorkerState.Took free chunk }
+        ensures leaves { IfSome away (λ server. result ≡ WorkerState.Standing free) }
+    {
+        let Some(server) = away else {
+            return WorkerState::Took(free, chunk);
+        };
+        context.out.miss(context.rt, chunk.number(), server);
+        let leaving = Leaving {
+            taken: Some(chunk),
+            loaded: Vec::new(self.alloc),
+            server: None,
+        };
+        give_back(context, seat, leaving);
+        WorkerState::Standing(free)
+    }
+
+    /// Loads the chunk that was taken, once the session is ready; until then the session is served.
+    pub(super) fn load<A: Tally, S: Tally, L: Link, R: Wait>(
+        &mut self,
+        context: &TurnContext<'_, A, S, R>,
+        seat: &mut S::Seat,
+        free: IdleUpstream<L>,
+        chunk: Carried,
+    ) -> WorkerState<L>
+        ensures same { seat.new ≡ seat.old }
+        ensures loaded { free.upstream.ending ≡ None
+            → HasLoaded result free.upstream.session chunk context.entry.now.now }
+        ensures gone { HasGone result self.old.last self.new.last self.new.event }
+    {
+        if free.upstream.ending.is_some() || !free.upstream.session.is_ready() {
+            let free = serve_free(context.rt, self.alloc, &mut self.room, free, context.now);
+            return self.wait_for(context, seat, free, chunk);
+        }
+        let IdleUpstream { mut upstream } = free;
+        let suspect = self
+            .doubts
+            .suspect(context, upstream.session.server(), &chunk);
+        match upstream.session.load(self.alloc, chunk, context.now) {
+            Ok(()) => {
+                self.doubts.load(suspect);
+                self.go_to(upstream.session.server());
+                WorkerState::Loaded(upstream)
+            }
+            Err(LoadFailed { chunk, error: _ }) => {
+                let free = to_end(
+                    IdleUpstream { upstream },
+                    EndReason::Lost(LossReason::Memory),
+                );
+                self.wait_for(context, seat, free, chunk)
+            }
+        }
+    }
+
+    /// Loads the chunk that was taken, beside those that the session has.
+    pub(super) fn load_more<A: Tally, S: Tally, L: Link, R: Wait>(
+        &mut self,
+        context: &TurnContext<'_, A, S, R>,
+        seat: &mut S::Seat,
+        roomy: UpstreamWithRoom<L>,
+        chunk: Carried,
+    ) -> WorkerState<L>
+        ensures same { seat.new ≡ seat.old }
+        ensures loaded { HasLoadedMore result self.new.event roomy.upstream.session chunk
+            context.entry.now.now }
+        ensures gone { HasGone result self.old.last self.new.last self.new.event }
+    {
+        let UpstreamWithRoom { mut upstream } = roomy;
+        match upstream.session.load(self.alloc, chunk, context.now) {
+            Ok(()) => {
+                self.go_to(upstream.session.server());
+                WorkerState::Loaded(upstream)
+            }
+            Err(LoadFailed { chunk, error: _ }) => {
+                let why = EndReason::Lost(LossReason::Memory);
+                self.lose(context, seat, ended(upstream, why), why, Some(chunk))
+            }
+        }
+    }
+
+    /// A chunk goes to a server, which is told where the last one went to another.
+    fn go_to(&mut self, server: u16)
+        ensures told { self.new.event ≡ went_of self.old.last server }
+        ensures kept { self.new.last ≡ Some server }
+    {
+        self.event = match self.last {
+            Some(last) if last != server => Some(WorkerEvent::Went { server }),
+            _ => None,
+        };
+        self.last = Some(server);
+    }
+
+    /// A chunk waits for its session, unless that is to end; then the chunk goes back.
+    fn wait_for<A: Tally, S: Tally, L: Link, R: Wait>(
+        &mut self,
+        context: &TurnContext<'_, A, S, R>,
+        seat: &mut S::Seat,
+        free: IdleUpstream<L>,
+        chunk: Carried,
+    ) -> WorkerState<L>
+        ensures same { seat.new ≡ seat.old }
+        ensures waits { free.upstream.ending ≡ None → (result ≡ WorkerState.Took free chunk)
+            × (self.new.event ≡ self.old.event) }
+        ensures last { self.new.last ≡ self.old.last }
+        ensures ends { IfSome free.upstream.ending (λ why. (result ≡ WorkerState.Idle)
+            × (self.new.event ≡ news_of why free.upstream.session.setup.server 0)) }
+    {
+        match free.upstream.ending {
+            None => WorkerState::Took(free, chunk),
+            Some(ending) => {
+                self.tell_end(ending, free.upstream.session.server());
+                end_free(context, seat, free, Some(chunk));
+                WorkerState::Idle
+            }
+        }
+    }
+}
