@@ -129,9 +129,7 @@ def place_of(edit, crate, sources):
     for file, old in edit.changes:
         text = (CRATES / crate / file).read_text()
         if text.count(old) != 1:
-            raise SystemExit(
-                f"{crate}: {edit.name}.edit: its old text stands {text.count(old)} times in {file}"
-            )
+            raise SystemExit(f"{crate}: {edit.name}.edit: its old text stands {text.count(old)} times in {file}")
         place = text.index(old)
         source = sources.get(file)
         functions = source.functions if source else []

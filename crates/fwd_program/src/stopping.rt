@@ -121,6 +121,26 @@ fn without_control<E: Write>(alloc: Global, file: &SettingsFile<'_>, errors: &mu
     StopEnd::from(fault)
 }
 
+/// Where a relay is asked to stop, and how long it has then (milliseconds).
+struct ControlTerms {
+    path: Option<Text>,
+    stop_wait: u64,
+}
+
+/// Those of these settings.
+fn terms_of(settings: Settings) -> ControlTerms {
+    let Settings { relay, outputs: _ } = settings;
+    let RelaySettings {
+        control,
+        stop_wait,
+        ..
+    } = relay;
+    ControlTerms {
+        path: control,
+        stop_wait,
+    }
+}
+
 /// What the relay of the settings in a file is asked.
 fn request_of<R: Files + AllocGlobal, E: Write>(
     rt: &R,
@@ -128,17 +148,12 @@ fn request_of<R: Files + AllocGlobal, E: Write>(
     errors: &mut E,
 ) -> Result<Request, StopEnd> {
     let file = SettingsFile::read(rt, call.path);
-    let Settings { relay, outputs: _ } = settings_at(rt.alloc(), &file, errors)?;
-    let RelaySettings {
-        control,
-        stop_wait,
-        ..
-    } = relay;
+    let ControlTerms { path, stop_wait } = terms_of(settings_at(rt.alloc(), &file, errors)?);
     let wait = match call.seconds {
         Some(seconds) => seconds.saturating_mul(1_000),
         None => stop_wait,
     };
-    match control {
+    match path {
         Some(path) => Ok(Request { path, wait }),
         None => Err(without_control(rt.alloc(), &file, errors)),
     }

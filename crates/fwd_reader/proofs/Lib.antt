@@ -9,3 +9,5 @@ pub mod Idlest
 pub mod Refusing
 pub mod Settling
 pub mod Collecting
+pub mod Owing
+pub mod Standing

@@ -1,5 +1,5 @@
 -- Which source stands under an id, and which of two is idle for longer. It only describes the code.
-use Rattle.std.specs.Prelude.{◌==◌, ℕ, Bool, true, false, nat_le, Option, Some, None, if◌then◌else◌}
+use Rattle.std.specs.Prelude.{◌==◌, ℕ, Bool, true, false, nat_le, Option, Some, None, option_and_then, if◌then◌else◌}
 use Rattle.std.specs.Ordering.{nat_cmp}
 use Rattle.std.specs.BTreeMap as tree
 use Rattle.slab.specs.Slab as slots
@@ -38,6 +38,31 @@ sources_in c = source_at c.sources c.opened
 abbrev pub is_source : Peer → Bool
 is_source (kind.Source source) = true
 is_source (kind.Monitor monitor) = false
+
+-- the id of the source that it is, if it is one
+abbrev pub source_id : Peer → Option ℕ
+source_id (kind.Source source) = Some source.id
+source_id (kind.Monitor monitor) = None
+
+-- the connection that stands, if one does
+abbrev pub connection_in : Option OpenConnection → Option Peer
+connection_in None = None
+connection_in (Some opened) = Some opened.connection
+
+-- the connection at each key, if one stands there
+abbrev pub connections_in : slots.Slab OpenConnection → (key : ℕ) → Option Peer
+connections_in opened key = connection_in (slots.get opened key)
+
+abbrev pub connection_at : Connections → (key : ℕ) → Option Peer
+connection_at c = connections_in c.opened
+
+-- those that stand once the one at a key is gone
+abbrev pub without : (gone : ℕ) → (ℕ → Option Peer) → (key : ℕ) → Option Peer
+without gone s key = if key == gone then None else s key
+
+-- the id of the source at a key, if one stands there
+abbrev pub source_id_at : Connections → (key : ℕ) → Option ℕ
+source_id_at c key = option_and_then source_id (connection_at c key)
 
 -- an idle source that was found, or the connection at a key, where that is idle for longer
 abbrev pub longer_idle : Option Idle → (key : ℕ) → (since : Option ℕ) → Option Idle

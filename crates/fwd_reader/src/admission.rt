@@ -43,13 +43,16 @@
 //! there).
 //!
 //! **What is proved of it.** A request that has to wait changes nothing (`Router::admit`). What may
-//! be owed: `OwedLimit`. Who enters an output where sources wait was the first in line:
-//! `SourceLine::judge`. What is reserved stays within the room, and readers stand in the order in
-//! which they came, each once: `TurnState`. Which source gives its place: `Connections::idlest`,
-//! `Connections::crowded_out`, `PlaceRule::choice`. That whoever waits is asked again no clause
-//! says: `tests/full` tries it.
+//! be owed: `OwedLimit`. What is owed rises and falls at the output that is meant, and at no other:
+//! `Admission::owes`, `Admission::answered`. Who enters an output where sources wait was the first
+//! in line: `SourceLine::judge`. What is reserved stays within the room, and readers stand in the
+//! order in which they came, each once: `TurnState`. Which source gives its place:
+//! `Connections::idlest`, `Connections::crowded_out`, `PlaceRule::choice`. That whoever waits is
+//! asked again no clause says: `tests/full` tries it.
 
-ghost use Rattle.std.specs.Prelude.{◌≡◌};
+ghost use Rattle.std.specs.Prelude.{◌≡◌, ◌+◌, ◌-◌};
+ghost use Rattle.fwd_peers.specs.Costs.{bounded};
+ghost use Rattle.fwd_reader.specs.Owing.{changed_at, owed_at_each};
 
 mod eviction_candidate;
 mod full_report;
@@ -160,7 +163,10 @@ impl<'a> Admission<'a> {
 
     /// The output of this number owes an answer to a request more, which takes so many bytes beside
     /// its entries.
-    pub fn owes(&mut self, output: u16, bytes: u64) {
+    pub fn owes(&mut self, output: u16, bytes: u64)
+        ensures { owed_at_each self.new
+            ≡ changed_at output (λ owed. bounded (owed + bytes)) (owed_at_each self.old) }
+    {
         if let Some(line) = self.lines.get_mut(output as usize) {
             line.owed.rise(bytes);
         }
@@ -168,7 +174,10 @@ impl<'a> Admission<'a> {
 
     /// The output of this number answered requests, if any, that took so many bytes beside their
     /// entries.
-    pub fn answered(&mut self, output: u16, bytes: u64) {
+    pub fn answered(&mut self, output: u16, bytes: u64)
+        ensures { owed_at_each self.new
+            ≡ changed_at output (λ owed. owed - bytes) (owed_at_each self.old) }
+    {
         if bytes == 0 {
             return;
         }
@@ -208,7 +217,9 @@ impl<'a> Admission<'a> {
     }
 
     /// Something was settled.
-    pub fn note_moved(&mut self) {
+    pub fn note_moved(&mut self)
+        ensures { owed_at_each self.new ≡ owed_at_each self.old }
+    {
         self.is_moved = true;
     }
 
@@ -218,7 +229,9 @@ impl<'a> Admission<'a> {
     }
 
     /// Whether something moved since the last call.
-    pub fn take_moved(&mut self) -> bool {
+    pub fn take_moved(&mut self) -> bool
+        ensures { owed_at_each self.new ≡ owed_at_each self.old }
+    {
         mem::replace(&mut self.is_moved, false)
     }
 

@@ -4,8 +4,16 @@ ghost use Rattle.std.specs.Prelude.{◌≡◌, ℕ, false, not, true, IfNone, If
 ghost use Rattle.fwd_reader.specs.Idling.{IsCrowding, IsIdlest, NoneIsIdle};
 ghost use Rattle.fwd_reader.specs.Idling as idling;
 ghost use Rattle.fwd_reader.specs.Lateness.{IsLate, is_late};
-ghost use Rattle.fwd_reader.specs.OpenConnections.{is_source, longer_idle, source_with, sources_in};
-ghost use Rattle.fwd_reader.specs.Tellings.{AreTold, IsToldAt, IsToldOf};
+ghost use Rattle.fwd_reader.specs.OpenConnections.{
+  connection_at,
+  is_source,
+  longer_idle,
+  source_id_at,
+  source_with,
+  sources_in,
+  without,
+};
+ghost use Rattle.fwd_reader.specs.Tellings.{AreTold, IsToldAt, IsToldOf, sources_without};
 
 use crate::admission::EvictionCandidate;
 use crate::deadlines::{Deadlines, Unidentified};
@@ -548,7 +556,11 @@ impl Connections {
     }
 
     /// A connection goes.
-    pub fn remove(&mut self, key: usize) {
+    pub fn remove(&mut self, key: usize)
+        ensures gone { connection_at self.new ≡ without key (connection_at self.old) }
+        ensures sources { sources_in self.new
+            ≡ sources_without (source_id_at self.old key) (sources_in self.old) }
+    {
         self.forget(key);
         let Some(opened) = self.opened.try_remove(key) else {
             return;

@@ -3,6 +3,7 @@
 ghost use Rattle.std.specs.Prelude.{◌≡◌, ℕ, List, true, false, OnOk, OnErr};
 ghost use Rattle.fwd_reader.specs.Admissions.{KeepsTicketOf, silent_entries};
 ghost use Rattle.fwd_reader.specs.OpenTickets.{AreSame};
+ghost use Rattle.fwd_reader.specs.Owing.{upkeep_of};
 ghost use Rattle.fwd_reader.specs.OpenConnections.{sources_in};
 ghost use Rattle.fwd_reader.specs.Collections.{Collects, CollectsInPart, CollectsWhole};
 ghost use Rattle.fwd_reader.specs.Promises.{HoldsRouted, TellsPromised};
@@ -25,7 +26,9 @@ use std::sync::Wait;
 const BLOCKS: u16 = 16;
 
 /// What requests take beside their entries that are answered by these receipts, in bytes.
-fn upkeep_of(receipts: &[Receipt]) -> u64 {
+fn upkeep_of(receipts: &[Receipt]) -> u64
+    ensures { result ≡ upkeep_of receipts.now }
+{
     let mut bytes: u64 = 0;
     for receipt in receipts {
         let one = upkeep(receipt.tag(), receipt.chunk());
@@ -103,6 +106,8 @@ impl<'a> OutputRoute<'a> {
         ensures kept { OnOk result
             (KeepsTicketOf number self.old.open_tickets asked self.new.open_tickets) }
         ensures same { OnErr result (AreSame self.old.open_tickets self.new.open_tickets) }
+        ensures flush { OnOk result
+            (self.new.timer.now ≡ record self.old.timer.now { is_fresh = true }) }
     {
         let shared = &self.output.shared;
         let (origin, batch) = asked;
@@ -135,7 +140,8 @@ impl<'a> OutputRoute<'a> {
     /// the next chunk of a tag is opened, which has a greater number than all before it. So has the
     /// first chunk of a tag, which closes none: each chunk wakes at most once here.
     fn wake_for(&mut self, ticket: &Ticket)
-        ensures { self.new.open_tickets ≡ self.old.open_tickets }
+        ensures tickets { self.new.open_tickets ≡ self.old.open_tickets }
+        ensures timer { self.new.timer ≡ self.old.timer }
     {
         let Some(last) = ticket.spans().last() else {
             return;

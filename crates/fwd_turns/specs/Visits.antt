@@ -1,10 +1,10 @@
 -- What is known of a source behind a visit, and what becomes of it.
-use Rattle.std.specs.Prelude.{◌||◌, Bool, true, false, not, Option, Some, None, if◌then◌else◌}
+use Rattle.std.specs.Prelude.{◌≡◌, ◌==◌, ◌≤◌, ◌||◌, ◌&&◌, ℕ, Bool, true, false, not, length, Option, Some, None, if◌then◌else◌}
 use Rattle.fwd_peers.specs.declared.peer_state.PeerState.TheVariants as stage
 use Rattle.fwd_peers.specs.declared.close_reason.CloseReason.TheVariants as reason
 use Rattle.fwd_peers.specs.declared.close_reason.PeerEnd.{PeerEnd}
 use Rattle.fwd_peers.specs.declared.close_reason.PeerEnd.TheVariants as ended
-use Rattle.fwd_peers.specs.Peers.{PeerShown, asks, end_by, is_free, is_too_long, stands}
+use Rattle.fwd_peers.specs.Peers.{PeerShown, Reads, asks, end_by, is_free, is_too_long, stands}
 use Rattle.fwd_turns.specs.declared.visiting.Visited.{Visited}
 use Rattle.fwd_turns.specs.declared.visiting.After.{After}
 use Rattle.fwd_turns.specs.declared.visiting.After.TheVariants.{Again, Waits, Kept, Rests, Goes}
@@ -37,6 +37,11 @@ visited_of may_have_more waits is_closing s = record {
   is_free = is_free s;
 }
 
+-- a request of a source waits, and the sender of the first asked for no acknowledgement: it does not
+-- send it again
+abbrev pub waits_unasked : PeerShown → Bool
+waits_unasked s = not (length s.live.waiting == 0) && not (asks s)
+
 -- it was ended for want of memory
 abbrev pub is_for_memory : Option PeerEnd → Bool
 is_for_memory None = false
@@ -49,3 +54,13 @@ judged s =
     if is_too_long s
     then record s { stage = stage.Over; why = Some (end_by reason.NoLogin) }
     else s
+
+-- a source is read once, at a moment, in a room of so many bytes, and judged by what came; there
+-- may be more
+pub record IsRead (now : ℕ) (to_end : Bool) (room : ℕ) (s : PeerShown) (more : Bool) (t : PeerShown)
+    : Type 0 where
+  pub most : ℕ
+  pub within : most ≤ room
+  pub between : PeerShown
+  pub heard : Reads now to_end most s more between
+  pub after : t ≡ judged between

@@ -5,7 +5,7 @@ use crate::draining::{is_dropped, read_leaving};
 use crate::loop_memory::LoopMemory;
 use crate::lost_servers::{LostServers, fact_of};
 use crate::places::{PlaceRule, free_place, part, tell_closed};
-use crate::visiting::{After, after_visit, note, serve_monitor, tell_end};
+use crate::visiting::{After, after_visit, note, serve_monitor, tell_end, write_source};
 use fwd_environment::WorkerEvent;
 use fwd_links::{Mailbox, Notices, RunClock, SharedFlags};
 use fwd_listeners::tokens::{CONTROL, MONITORS, SOURCES, WAKER};
@@ -450,8 +450,7 @@ impl EventLoop {
         let after = match connection {
             Peer::Source(source) => {
                 let _ = tell_end(source, observer);
-                let waits = source.waiting() > 0;
-                after_visit(source, false, waits, to_end)
+                write_source(source, to_end)
             }
             Peer::Monitor(_) => After::Again,
         };

@@ -1,14 +1,18 @@
 //! A visit to a connection, and what becomes of the connection behind it.
 
-ghost use Rattle.std.specs.Prelude.{◌≡◌, ◌≢◌, ◌<◌, ◌⊎◌, None, length, true, false};
+ghost use Rattle.std.specs.Prelude.{◌≡◌, ◌≢◌, ◌<◌, ◌⊎◌, [], None, length, true, false};
 ghost use Rattle.fwd_peers.specs.Peers.{Writes, stands};
+ghost use Rattle.fwd_peers.specs.declared.peer_state.PeerState.TheVariants.{Open};
+ghost use Rattle.fwd_peers.specs.declared.limits.TheConstants.{UNSENT};
 ghost use Rattle.fwd_turns.specs.Visits.{
+  IsRead,
   after_of,
   after_waiting,
   is_for_memory,
   is_left,
   judged,
   visited_of,
+  waits_unasked,
 };
 
 use crate::event_loop::ReadContext;
@@ -122,6 +126,17 @@ pub(crate) fn after_visit(
     visited.after()
 }
 
+/// The same where nothing is read: a source of which requests wait is kept, as behind a visit that
+/// reads.
+#[tactic(auto, using(crate::proofs::Keeping::writes_keep, crate::proofs::Keeping::stays_waiting))]
+pub(crate) fn write_source(source: &mut SourcePeer, is_closing: bool) -> After
+    ensures waiting { source.new.live.waiting ≡ source.old.live.waiting }
+    ensures keeps { waits_unasked source.old ≡ true → result ≢ After.Goes }
+{
+    let waits = source.waiting() > 0;
+    after_visit(source, false, waits, is_closing)
+}
+
 /// Reads a source at a moment (milliseconds), and says whether there may be more. One of which
 /// requests wait is not read before they are admitted.
 pub(crate) fn read_source(
@@ -131,8 +146,11 @@ pub(crate) fn read_source(
     to_end: bool,
     now: u64,
 ) -> bool
-    ensures { 0 < length source.old.live.waiting
+    ensures waits { 0 < length source.old.live.waiting
         → (source.new ≡ source.old) × (result ≡ true) }
+    ensures read { source.old.live.waiting ≡ [] → source.old.stage ≡ Open
+        → length source.old.live.unsent < UNSENT
+        → IsRead now to_end (length room.new) source.old result source.new }
 {
     if source.waiting() > 0 {
         return true;

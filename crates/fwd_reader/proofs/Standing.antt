@@ -1,0 +1,107 @@
+-- Which sources stand once a connection went.
+use Rattle.std.proofs.Common.{arith, ◌≡◌, ℕ, Bool, true, false, Option, Some, None, refl, sym, ap, subst, ◌∙◌}
+use Rattle.std.specs.Prelude.{◌==◌, cond, if◌then◌else◌, nat_lt}
+use Rattle.std.specs.Ordering.{is_eq, nat_cmp}
+use Rattle.std.specs.declared.cmp.Ordering.TheVariants.{Less, Equal, Greater}
+use Rattle.std.specs.BTreeMap as tree
+use Rattle.std.proofs.lemmas.Bool.{eqb-true, eqb-false}
+use Rattle.std.proofs.lemmas.Bool.Decides.{nat_tests}
+use Rattle.slab.specs.Slab as slots
+use Rattle.fwd_reader.specs.declared.peer.Peer.{Peer}
+use Rattle.fwd_reader.specs.declared.peer.Peer.TheVariants as kind
+use Rattle.fwd_reader.specs.declared.connections.OpenConnection.{OpenConnection}
+use Rattle.fwd_reader.specs.OpenConnections.{connection_in, connections_in, source_at, source_id, source_in, source_under, source_with, without}
+use Rattle.fwd_reader.specs.Tellings.{sources_without}
+
+-- a connection went
+pub gone : (s t : slots.Slab OpenConnection) (key : ℕ) → slots.Updates s t key None
+    → connections_in t ≡ without key (connections_in s)
+gone s t key went = λ i k. by k (k == key) refl i
+  where
+    by : (k : ℕ) (b : Bool) → (k == key) ≡ b
+        → connections_in t k ≡ (if b then None else connections_in s k)
+    by k true e =
+        subst (λ j. connections_in t j ≡ None) (sym (eqb-true k key e))
+        (ap connection_in went.changed)
+    by k false e = ap connection_in (went.others k (eqb-false k key e))
+
+-- a connection that has another id, or none, is no source of this one
+no_source : (id : ℕ) (connection : Peer) (o : Option ℕ) → source_id connection ≡ o
+    → ((gone : ℕ) → o ≡ Some gone → (gone == id) ≡ false) → source_with id connection ≡ None
+no_source id (kind.Monitor monitor) o is apart = refl
+no_source id (kind.Source source) o is apart =
+    ap (λ b. if b then Some source else None) (apart source.id (sym is))
+
+-- the source of an id under a key, where the connection at one key went that has not this id
+under_gone : (s t : slots.Slab OpenConnection) (key : ℕ) (was : OpenConnection) (id : ℕ)
+    → slots.get s key ≡ Some was → slots.Updates s t key None
+    → source_with id was.connection ≡ None → (o : Option ℕ)
+    → source_under t id o ≡ source_under s id o
+under_gone s t key was id there went other None = refl
+under_gone s t key was id there went other (Some k) = by (k == key) refl
+  where
+    by : (b : Bool) → (k == key) ≡ b
+        → source_in id (slots.get t k) ≡ source_in id (slots.get s k)
+    by true e =
+        subst (λ j. source_in id (slots.get t j) ≡ source_in id (slots.get s j))
+        (sym (eqb-true k key e))
+        (ap (source_in id) went.changed ∙ sym other ∙ sym (ap (source_in id) there))
+    by false e = ap (source_in id) (went.others k (eqb-false k key e))
+
+-- an id is found by itself alone
+equal : (less same : Bool) → less ≡ false → same ≡ true
+    → is_eq (cond less Less (cond same Equal Greater)) ≡ true
+equal false true less found = refl
+equal false false less found = found
+equal true same less found = absurd (not_both less)
+  where
+    not_both : true ≡ false → ⊥
+    not_both e = cc
+
+unequal : (less same : Bool) → same ≡ false
+    → is_eq (cond less Less (cond same Equal Greater)) ≡ false
+unequal true same other = refl
+unequal false same other = ap (λ b. is_eq (cond b Equal Greater)) other
+
+found : (gone id : ℕ) → (gone == id) ≡ true → tree.is_at (nat_cmp gone) id ≡ true
+found gone id e =
+    let same : gone ≡ id = eqb-true gone id e in
+    let none : nat_lt gone id ≡ false = grind (arith, nat_tests) in
+    equal (nat_lt gone id) (gone == id) none e
+
+not_found : (gone id : ℕ) → (gone == id) ≡ false → tree.is_at (nat_cmp gone) id ≡ false
+not_found gone id e = unequal (nat_lt gone id) (gone == id) e
+
+-- a source went, from its key and from the table of ids
+pub source_gone : (keys after : tree.BTreeMap ℕ ℕ) (s t : slots.Slab OpenConnection) (key : ℕ)
+    (was : OpenConnection) (id : ℕ) → slots.get s key ≡ Some was
+    → source_id was.connection ≡ Some id
+    → tree.UpdatesBy nat_cmp (nat_cmp id) keys after None → slots.Updates s t key None
+    → source_at after t ≡ sources_without (Some id) (source_at keys s)
+source_gone keys after s t key was id there own taken went = λ i other. by other (id == other) refl i
+  where
+    is_same : (j k : ℕ) → Some k ≡ Some j → j ≡ k
+    is_same j k e = cc
+
+    by : (other : ℕ) (b : Bool) → (id == other) ≡ b
+        → source_under t other (tree.get nat_cmp after other)
+        ≡ (if b then None else source_under s other (tree.get nat_cmp keys other))
+    by other true e =
+        ap (source_under t other)
+        (taken.0 other ∙ ap (λ b. cond b None (tree.get nat_cmp keys other)) (found id other e))
+    by other false e =
+        ap (source_under t other) (taken.2 other (not_found id other e))
+        ∙ under_gone s t key was other there went
+        (no_source other was.connection (Some id) own (λ g is. ap (λ j. j == other) (is_same g id is) ∙ e))
+        (tree.get nat_cmp keys other)
+
+-- a monitor went
+pub monitor_gone : (keys : tree.BTreeMap ℕ ℕ) (s t : slots.Slab OpenConnection) (key : ℕ)
+    (was : OpenConnection) → slots.get s key ≡ Some was → source_id was.connection ≡ None
+    → slots.Updates s t key None → source_at keys t ≡ source_at keys s
+monitor_gone keys s t key was there none went =
+    λ i id. under_gone s t key was id there went
+    (no_source id was.connection None none (λ g is. absurd (some_none g is))) (tree.get nat_cmp keys id) i
+  where
+    some_none : (g : ℕ) → None ≡ Some g → ⊥
+    some_none g e = cc
