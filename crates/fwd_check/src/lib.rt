@@ -1,6 +1,6 @@
-//! What is said of a file of settings: why it is refused, and what is lawful in it and foolish. What
-//! is proved here is that the code is safe, that its loops end, that what is found are the settings
-//! in a text, and that a file is checked as a text is.
+//! What is said of a file of settings: why it is refused, and what is lawful in it and foolish.
+//! What is proved here is that the code is safe, that its loops end, that what is found are the
+//! settings in a text, and that a file is checked as a text is.
 #![tactic(auto)]
 
 mod causes;

@@ -82,9 +82,9 @@ pub(crate) fn receipts_of(
 }
 
 /// Each ticket that is due is spent for its receipt, and its request leaves the output; each other
-/// ticket comes back. Of two tickets of one request the second finds none, and comes back. Contracts
-/// read its ticket off each receipt (`ticket_of`), so that receipts and tickets that come back are
-/// together a permutation of what was handed in.
+/// ticket comes back. Of two tickets of one request the second finds none, and comes back.
+/// Contracts read its ticket off each receipt (`ticket_of`), so that receipts and tickets that come
+/// back are together a permutation of what was handed in.
 pub(crate) fn hand_out(
     state: &mut OutputState,
     tickets: Vec<Ticket>,

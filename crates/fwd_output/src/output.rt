@@ -270,8 +270,8 @@ impl OutputState {
     /// Enters a request at a moment (milliseconds): each of its entries joins its tag's open
     /// chunk, or begins a new one. It is refused as `Full` where the bytes held would be more
     /// than the total limit, and then as `NumbersSpent`. On an error nothing has changed. Answers
-    /// the runs of the entries in their chunks, and the request's slot. Asked is that the origin's request is not owed an
-    /// answer already: `holds` tells.
+    /// the runs of the entries in their chunks, and the request's slot. Asked is that the origin's
+    /// request is not owed an answer already: `holds` tells.
     pub fn admit(
         &mut self,
         alloc: Global,

@@ -46,8 +46,8 @@ pub record Admits (routes : List (List (List ℕ))) (stores : List OpenTickets) 
   pub named : route routes asked.1.tag ≡ Some number
   pub entered : Enters stores number asked after
 
--- The output of this number did not take a request that it was handed, and why its source is closed:
--- for the output's reason; or no output stands there.
+-- The output of this number did not take a request that it was handed, and why its source is
+-- closed: for the output's reason; or no output stands there.
 abbrev pub IsDeclined : List OpenTickets → (number : ℕ) → CloseReason → Type 0
 IsDeclined stores number why =
     ((reason : AdmitRefusal) × (why ≡ close_reason.Refused number reason))
@@ -55,8 +55,8 @@ IsDeclined stores number why =
 
 -- Why the first request that waits at a source is refused, and what the source is then. The routes
 -- name no output for its tag: it waits still. There is no room for its acknowledgement, when out of
--- memory: it does so too. Or it was given, and the output that the routes name first for its tag did
--- not take it.
+-- memory: it does so too. Or it was given, and the output that the routes name first for its tag
+-- did not take it.
 abbrev pub IsRefusedFor : (routes : List (List (List ℕ))) → List OpenTickets → PeerShown → CloseReason
     → PeerShown → Type 0
 IsRefusedFor routes stores s why t =
@@ -97,8 +97,8 @@ pub record AdmitsEach (routes : List (List (List ℕ))) (stores : List OpenTicke
   pub admitted : AdmitsAll routes asked stores s after t
   pub none : t.live.waiting ≡ []
 
--- some are, and the next has to wait: it is the first that waits still, and the routes name an output
--- for its tag
+-- some are, and the next has to wait: it is the first that waits still, and the routes name an
+-- output for its tag
 pub record AdmitsAndWaits (routes : List (List (List ℕ))) (stores : List OpenTickets)
     (s : PeerShown) (after : List OpenTickets) (t : PeerShown) : Type 0 where
   pub asked : List (Origin × Request)

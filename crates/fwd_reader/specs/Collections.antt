@@ -32,8 +32,8 @@ IsRefused s t =
     Looks s t ⊎ ((taken : List Ticket) × ((between : Stored) × (HandsOver s taken between
     × (t ≡ record between { late = between.late ++ taken; late_due = true; room = t.room }))))
 
--- tickets of one of the stores are handed in, and the other is as it was: those of sources with many
--- unanswered requests only where none of the others is to be handed in
+-- tickets of one of the stores are handed in, and the other is as it was: those of sources with
+-- many unanswered requests only where none of the others is to be handed in
 abbrev pub AreHandedIn : OpenTickets → List Receipt → OpenTickets → Type 0
 AreHandedIn s receipts t =
     (IsHandedIn s.few receipts t.few × (t.many ≡ s.many) × ¬ (IsQuiet s.few))

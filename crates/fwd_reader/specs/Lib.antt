@@ -4,9 +4,9 @@
 -- each of its calls makes of that; OpenTickets, what becomes of the two stores of an output;
 -- Tellings, who is told of receipts; Collections, of which receipts; Rounds, at which outputs they
 -- are collected, and how often; Promises, what is promised of each; Idling, which source gives its
--- place to a new one; Lateness, which connection had its time; Ages, how old something is; Entering,
--- who may enter an output; Owing, what outputs owe. OpenConnections, Turning and Routers only
--- describe the code.
+-- place to a new one; Lateness, which connection had its time; Ages, how old something is;
+-- Entering, who may enter an output; Owing, what outputs owe. OpenConnections, Turning and Routers
+-- only describe the code.
 pub mod Ends
 pub mod Admissions
 pub mod Stores

@@ -53,6 +53,7 @@ connection_in (Some opened) = Some opened.connection
 abbrev pub connections_in : slots.Slab OpenConnection → (key : ℕ) → Option Peer
 connections_in opened key = connection_in (slots.get opened key)
 
+-- the same of these connections
 abbrev pub connection_at : Connections → (key : ℕ) → Option Peer
 connection_at c = connections_in c.opened
 

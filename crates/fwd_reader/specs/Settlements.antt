@@ -1,4 +1,5 @@
--- What a reader makes of what workers told: of which settled chunks the tickets are to be handed in.
+-- What a reader makes of what workers told: of which settled chunks the tickets are to be handed
+-- in.
 use Rattle.std.specs.Prelude.{◌≡◌, ℕ, List, [], ◌∷◌, Option, Some, None, map, slice_set, if◌then◌else◌}
 use Rattle.std.specs.List.{slice_get}
 use Rattle.fwd_environment.specs.declared.link.WorkerEvent.{WorkerEvent}
@@ -16,8 +17,8 @@ SettlesIn (Some store) stores place chunk after =
     (settled : OpenTickets) × (AreSettled store chunk settled
     × (after ≡ slice_set stores place settled))
 
--- a chunk of the output at a place is settled: for both stores of its tickets, and no other output's
--- tickets change
+-- a chunk of the output at a place is settled: for both stores of its tickets, and no other
+-- output's tickets change
 abbrev pub SettlesAt : List OpenTickets → (place chunk : ℕ) → List OpenTickets → Type 0
 SettlesAt stores place chunk after = SettlesIn (slice_get stores place) stores place chunk after
 

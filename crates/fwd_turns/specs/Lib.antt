@@ -1,5 +1,5 @@
--- To be believed: Draining, what is seen of a relay that was asked to stop; Visits, what is known of
--- a source behind a visit, and what becomes of it; and Ids, that no id is given twice.
+-- To be believed: Draining, what is seen of a relay that was asked to stop; Visits, what is known
+-- of a source behind a visit, and what becomes of it; and Ids, that no id is given twice.
 pub mod Draining
 pub mod Visits
 pub mod Ids

@@ -13,8 +13,8 @@ use Rattle.fwd_turns.specs.declared.visiting.After.TheVariants.{Again, Waits, Ke
 abbrev pub is_left : Visited → Bool
 is_left v = v.is_closing || not v.stands
 
--- what becomes of a source of which requests wait: where its other side is gone it is kept, but goes
--- if it sends again
+-- what becomes of a source of which requests wait: where its other side is gone it is kept, but
+-- goes if it sends again
 abbrev pub after_waiting : Visited → After
 after_waiting v = if is_left v then (if v.asks then Goes else Kept) else Waits
 
@@ -37,8 +37,8 @@ visited_of may_have_more waits is_closing s = record {
   is_free = is_free s;
 }
 
--- a request of a source waits, and the sender of the first asked for no acknowledgement: it does not
--- send it again
+-- a request of a source waits, and the sender of the first asked for no acknowledgement: it does
+-- not send it again
 abbrev pub waits_unasked : PeerShown → Bool
 waits_unasked s = not (length s.live.waiting == 0) && not (asks s)
 

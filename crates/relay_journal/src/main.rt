@@ -1,5 +1,5 @@
-//! What a run says of each event, by a clock that is set by hand, how its lines are paced, and which
-//! environments ask for them.
+//! What a run says of each event, by a clock that is set by hand, how its lines are paced, and
+//! which environments ask for them.
 #![tactic(auto)]
 
 mod asking;
