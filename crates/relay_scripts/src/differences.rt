@@ -2,7 +2,7 @@
 
 use crate::answers::{are_parts_of, lines_of, replayed};
 use crate::events::{Events, Piece};
-use fwd_script::{End, tell};
+use fwd_script::{End, Status, tell};
 use std::alloc::{AllocError, Global};
 use std::{fmt, io};
 
@@ -50,19 +50,41 @@ pub fn difference_of(
     wanted: &[u8],
 ) -> io::Result<Option<Difference>> {
     let (written, status) = replayed(alloc, script);
-    let mut text = Vec::from_slice(alloc, &written)?;
-    tell(&mut text, &End::Ran(status))?;
-    if text.as_slice() != wanted {
-        let lines = lines_of(alloc, &text)?;
-        let wanted = lines_of(alloc, wanted)?;
-        return Ok(Some(Difference::Whole(first_other(&lines, &wanted))));
+    if let Some(line) = other_line(alloc, &written, status, wanted)? {
+        return Ok(Some(Difference::Whole(line)));
     }
+    Ok(piece_difference(alloc, script, &written)?)
+}
+
+/// The number of the first line of a replay that is another one than must come.
+fn other_line(
+    alloc: Global,
+    written: &[u8],
+    status: Status,
+    wanted: &[u8],
+) -> io::Result<Option<usize>> {
+    let mut text = Vec::from_slice(alloc, written)?;
+    tell(&mut text, &End::Ran(status))?;
+    if text.as_slice() == wanted {
+        return Ok(None);
+    }
+    let lines = lines_of(alloc, &text)?;
+    let wanted = lines_of(alloc, wanted)?;
+    Ok(Some(first_other(&lines, &wanted)))
+}
+
+/// Where a replay whose pieces are cut, or joined, comes to something else than was written.
+fn piece_difference(
+    alloc: Global,
+    script: &[u8],
+    written: &[u8],
+) -> Result<Option<Difference>, AllocError> {
     let events = Events::of_script(alloc, script)?;
-    let answers = lines_of(alloc, &written)?;
+    let answers = lines_of(alloc, written)?;
     if let Some(difference) = cut_difference(alloc, &events, &answers)? {
         return Ok(Some(difference));
     }
-    Ok(joined_difference(alloc, &events, &answers)?)
+    joined_difference(alloc, &events, &answers)
 }
 
 /// The number, from 1, of the first line that is another one.

@@ -62,6 +62,15 @@ fn print_all<R: Print + AllocGlobal>(rt: &R, answers: &Vec<Answer>) -> io::Resul
     Ok(())
 }
 
+/// Steps an event, and says whether it was answered `memory`.
+fn step_one<R: Print + AllocGlobal>(rt: &R, relay: &mut Relay, event: &Event) -> io::Result<bool> {
+    let answer = relay.step(rt.alloc(), event);
+    let printed = print(rt, &answer);
+    let is_memory = matches!(answer, Answer::Memory);
+    printed?;
+    Ok(is_memory)
+}
+
 /// Steps each event, and again where it is answered `memory`.
 fn step_all<R: Print + AllocGlobal>(
     rt: &R,
@@ -69,10 +78,8 @@ fn step_all<R: Print + AllocGlobal>(
     events: &Vec<Event>,
 ) -> io::Result<()> {
     for event in events {
-        let answer = relay.step(rt.alloc(), event);
-        print(rt, &answer)?;
-        if let Answer::Memory = answer {
-            print(rt, &relay.step(rt.alloc(), event))?;
+        if step_one(rt, relay, event)? {
+            step_one(rt, relay, event)?;
         }
     }
     Ok(())

@@ -70,6 +70,30 @@ fn servers_at<R: Net<Listener = TcpListener, Stream = TcpStream>>(
     Ok(servers)
 }
 
+/// The number of the connection over which a step is played that tells nothing, if it is one.
+fn number_of(step: Step) -> Option<usize> {
+    match step {
+        Step::Send(number, _) | Step::Pieces(number, _) => Some(number),
+        Step::Fill(number, _) | Step::Acks(number, _) => Some(number),
+        Step::Large(number) | Step::Skip(number) | Step::Await(number) => Some(number),
+        _ => None,
+    }
+}
+
+/// Plays such a step over its connection.
+fn play_over(line: &mut PeerConnection, step: Step) -> Result<()> {
+    match step {
+        Step::Send(_, bytes) => line.send(bytes),
+        Step::Pieces(_, bytes) => line.send_pieces(bytes),
+        Step::Fill(_, count) => line.fill(count),
+        Step::Large(_) => send_large(line),
+        Step::Skip(_) => line.next(),
+        Step::Acks(_, places) => line.acknowledge(places),
+        Step::Await(_) => line.await_more(),
+        _ => Err(anyhow!("no such step")),
+    }
+}
+
 impl SceneRun {
     /// Three servers and two free ports for a relay, all at the host of this number.
     pub fn new<R: Net<Listener = TcpListener, Stream = TcpStream> + Clock>(
@@ -304,18 +328,14 @@ impl SceneRun {
 
     /// Plays a step over connections that stand.
     fn look(&mut self, step: Step) -> Result<()> {
+        if let Some(number) = number_of(step) {
+            return play_over(self.line(number)?, step);
+        }
         match step {
-            Step::Send(number, bytes) => self.line(number)?.send(bytes),
-            Step::Pieces(number, bytes) => self.line(number)?.send_pieces(bytes),
-            Step::Fill(number, count) => self.line(number)?.fill(count),
-            Step::Large(number) => send_large(self.line(number)?),
             Step::Told(field, number) => self.tell(field, number),
-            Step::Skip(number) => self.line(number)?.next(),
             Step::Values(field, number, count) => self.tell_values(field, number, count),
             Step::Alone(field, number, count) => self.tell_alone(field, number, count),
             Step::Ack(number) => self.acknowledge(number),
-            Step::Acks(number, places) => self.line(number)?.acknowledge(places),
-            Step::Await(number) => self.line(number)?.await_more(),
             Step::Silent(field, number) => self.tell_silence(field, number),
             Step::Rest(field, number) => self.tell_rest(field, number),
             Step::Text(field, number) => self.tell_text(field, number),
@@ -448,23 +468,42 @@ impl SceneRun {
         step: Step,
     ) -> Result<()> {
         match step {
-            Step::Source(bytes) => self.open(rt, self.site.sources, bytes)?,
-            Step::Monitor(bytes) => self.open(rt, self.site.monitors, bytes)?,
-            Step::Monitors(count) => self.crowd_monitors(rt, count)?,
-            Step::Accept(number) => self.accept(rt, number)?,
-            Step::Shut(number) => drop(self.server(number)?.accept(rt)?),
-            Step::Seek(number) => self.seek(rt, number)?,
+            Step::Source(bytes) => self.open(rt, self.site.sources, bytes),
+            Step::Monitor(bytes) => self.open(rt, self.site.monitors, bytes),
+            Step::Monitors(count) => self.crowd_monitors(rt, count),
+            Step::Accept(number) => self.accept(rt, number),
+            Step::Shut(number) => self.shut(rt, number),
+            Step::Seek(number) => self.seek(rt, number),
+            Step::Return(number) => self.come_back(rt, number),
+            Step::Crowd(number) => self.crowd_server(rt, number),
+            Step::Turn(field) => self.tell_turn(rt, field),
+            Step::Random(field) => self.tell_random(rt, field),
+            Step::Start => self.set_watch(rt),
+            Step::Within(field, most) => self.tell_within(rt, field, most),
+            _ => self.play_here(rt, step),
+        }
+    }
+
+    /// Plays a step that makes no connection.
+    fn play_here<R: Clock>(&mut self, rt: &R, step: Step) -> Result<()> {
+        match step {
             Step::Close(number) => self.close(number),
             Step::Leave(number) => self.leave(number),
-            Step::Return(number) => self.come_back(rt, number)?,
-            Step::Crowd(number) => self.crowd_server(rt, number)?,
-            Step::Turn(field) => self.tell_turn(rt, field)?,
-            Step::Random(field) => self.tell_random(rt, field)?,
             Step::Pause(millis) => thread::sleep(rt, Duration::from_millis(millis)),
-            Step::Start => self.start = Instant::now(rt)?,
-            Step::Within(field, most) => self.tell_within(rt, field, most)?,
-            _ => self.look(step)?,
+            _ => return self.look(step),
         }
+        Ok(())
+    }
+
+    /// The relay connects to a server, which closes the connection at once.
+    fn shut<R: Clock>(&mut self, rt: &R, number: usize) -> Result<()> {
+        drop(self.server(number)?.accept(rt)?);
+        Ok(())
+    }
+
+    /// A watch is set.
+    fn set_watch<R: Clock>(&mut self, rt: &R) -> Result<()> {
+        self.start = Instant::now(rt)?;
         Ok(())
     }
 }

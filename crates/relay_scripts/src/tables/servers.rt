@@ -47,12 +47,18 @@ fn answer(alloc: Global, servers: &mut Servers, words: &[&str]) -> Result<Option
 pub(crate) fn print_servers<R: Print + AllocGlobal>(rt: &R, text: &str) -> Result<()> {
     let mut servers = servers_of_kinds(rt.alloc(), "p", "1", "1")?;
     for line in text.lines() {
-        let words = words_of_line(rt.alloc(), line)?;
-        if let ["servers", kinds, wait, max] = *words {
-            servers = servers_of_kinds(rt.alloc(), kinds, wait, max)?;
-        } else if let Some(answer) = answer(rt.alloc(), &mut servers, &words)? {
-            println!(rt; "{answer} {line}")?;
-        }
+        print_line(rt, &mut servers, line)?;
+    }
+    Ok(())
+}
+
+/// Prints the answer to a call, if it has one, and the call.
+fn print_line<R: Print + AllocGlobal>(rt: &R, servers: &mut Servers, line: &str) -> Result<()> {
+    let words = words_of_line(rt.alloc(), line)?;
+    if let ["servers", kinds, wait, max] = *words {
+        *servers = servers_of_kinds(rt.alloc(), kinds, wait, max)?;
+    } else if let Some(answer) = answer(rt.alloc(), servers, &words)? {
+        println!(rt; "{answer} {line}")?;
     }
     Ok(())
 }

@@ -3,16 +3,28 @@
 
 use crate::tables::keys::print_keys;
 use anyhow::Result;
-use fwd_settings::read_settings;
+use fwd_settings::{Settings, SettingsFault, read_settings};
 use std::alloc::AllocError;
 
 /// Prints what is told of a text.
 fn print_text<R: Print + AllocGlobal>(rt: &R, text: &str, has_keys: bool) -> Result<()> {
     match read_settings(rt.alloc(), text.as_bytes()) {
-        Ok(settings) if has_keys => print_keys(rt, &settings),
-        Ok(_) => Ok(println!(rt; "good")?),
-        Err(fault) => Ok(println!(rt; "{fault}")?),
+        Ok(settings) => print_good(rt, &settings, has_keys),
+        Err(fault) => print_fault(rt, &fault),
     }
+}
+
+/// Prints what is told of good settings.
+fn print_good<R: Print + AllocGlobal>(rt: &R, settings: &Settings, has_keys: bool) -> Result<()> {
+    if has_keys {
+        return print_keys(rt, settings);
+    }
+    Ok(println!(rt; "good")?)
+}
+
+/// Prints why settings are bad.
+fn print_fault<R: Print>(rt: &R, fault: &SettingsFault) -> Result<()> {
+    Ok(println!(rt; "{fault}")?)
 }
 
 /// Appends a line to a text.
