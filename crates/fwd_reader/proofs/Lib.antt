@@ -11,3 +11,4 @@ pub mod Settling
 pub mod Collecting
 pub mod Owing
 pub mod Standing
+pub mod Queueing

@@ -1,17 +1,90 @@
--- Which sources stand once a connection went.
+-- Which sources stand once a connection's flags changed, or it went.
 use Rattle.std.proofs.Common.{arith, ◌≡◌, ℕ, Bool, true, false, Option, Some, None, refl, sym, ap, subst, ◌∙◌}
-use Rattle.std.specs.Prelude.{◌==◌, cond, if◌then◌else◌, nat_lt}
+use Rattle.std.specs.Prelude.{◌==◌, cond, if◌then◌else◌, nat_lt, IsSome}
+use Rattle.std.specs.Option.{option_map}
 use Rattle.std.specs.Ordering.{is_eq, nat_cmp}
 use Rattle.std.specs.declared.cmp.Ordering.TheVariants.{Less, Equal, Greater}
 use Rattle.std.specs.BTreeMap as tree
 use Rattle.std.proofs.lemmas.Bool.{eqb-true, eqb-false}
 use Rattle.std.proofs.lemmas.Bool.Decides.{nat_tests}
 use Rattle.slab.specs.Slab as slots
+use Rattle.slab.proofs.SlabLemmas.{Updates-with_value}
+use Rattle.fwd_peers.specs.Peers.{PeerShown}
 use Rattle.fwd_reader.specs.declared.peer.Peer.{Peer}
 use Rattle.fwd_reader.specs.declared.peer.Peer.TheVariants as kind
 use Rattle.fwd_reader.specs.declared.connections.OpenConnection.{OpenConnection}
 use Rattle.fwd_reader.specs.OpenConnections.{connection_in, connections_in, source_at, source_id, source_in, source_under, source_with, without}
+use Rattle.fwd_reader.specs.Queues.{put_at, with_changed}
 use Rattle.fwd_reader.specs.Tellings.{sources_without}
+
+-- another connection stands at a key
+pub updated : (opened : slots.Slab OpenConnection) (key : ℕ) (was is : OpenConnection)
+    → slots.get opened key ≡ Some was
+    → slots.Updates opened (slots.with_value opened key is) key (Some is)
+updated opened key was is there = Updates-with_value opened key is (subst IsSome (sym there) refl)
+
+-- the connection at each key stays where that at one key does
+stays_at : (opened : slots.Slab OpenConnection) (key : ℕ) (was is : OpenConnection)
+    → slots.get opened key ≡ Some was → is.connection ≡ was.connection → (k : ℕ)
+    → connections_in (slots.with_value opened key is) k ≡ connections_in opened k
+stays_at opened key was is there same k = by (k == key) refl
+  where
+    by : (b : Bool) → (k == key) ≡ b
+        → connections_in (slots.with_value opened key is) k ≡ connections_in opened k
+    by true e =
+        subst (λ j. connections_in (slots.with_value opened key is) j ≡ connections_in opened j)
+        (sym (eqb-true k key e))
+        (ap connection_in (updated opened key was is there).changed ∙ ap Some same
+        ∙ sym (ap connection_in there))
+    by false e =
+        ap connection_in ((updated opened key was is there).others k (eqb-false k key e))
+
+-- the source of an id, if a connection is that
+source_of : ℕ → Option Peer → Option PeerShown
+source_of id None = None
+source_of id (Some connection) = source_with id connection
+
+-- it is that of the connection alone
+is_of : (id : ℕ) (o : Option OpenConnection) → source_in id o ≡ source_of id (connection_in o)
+unfolding source_of
+is_of id None = refl
+is_of id (Some opened) = refl
+
+under : (opened : slots.Slab OpenConnection) (key : ℕ) (was is : OpenConnection)
+    → slots.get opened key ≡ Some was → is.connection ≡ was.connection → (id : ℕ) (k : Option ℕ)
+    → source_under (slots.with_value opened key is) id k ≡ source_under opened id k
+under opened key was is there same id None = refl
+under opened key was is there same id (Some k) =
+    is_of id (slots.get (slots.with_value opened key is) k)
+    ∙ ap (source_of id) (stays_at opened key was is there same k) ∙ sym (is_of id (slots.get opened k))
+
+-- what stands at a key changes, but for the connection itself: the same sources stand
+pub flags_change : (keys : tree.BTreeMap ℕ ℕ) (opened : slots.Slab OpenConnection) (key : ℕ)
+    (was is : OpenConnection) → slots.get opened key ≡ Some was → is.connection ≡ was.connection
+    → source_at keys (slots.with_value opened key is) ≡ source_at keys opened
+flags_change keys opened key was is there same =
+    λ i id. under opened key was is there same id (tree.get nat_cmp keys id) i
+
+-- so do the same connections
+pub all_stay : (opened : slots.Slab OpenConnection) (key : ℕ) (was is : OpenConnection)
+    → slots.get opened key ≡ Some was → is.connection ≡ was.connection
+    → connections_in (slots.with_value opened key is) ≡ connections_in opened
+all_stay opened key was is there same = λ i k. stays_at opened key was is there same k i
+
+-- what stands at a key became what the change makes of it
+pub changed : (opened : slots.Slab OpenConnection) (key : ℕ) (was is : OpenConnection)
+    (change : OpenConnection → OpenConnection) → slots.get opened key ≡ Some was → is ≡ change was
+    → slots.with_value opened key is ≡ with_changed opened key change
+changed opened key was is change there same =
+    ap (slots.with_value opened key) same
+    ∙ sym (ap (λ o. put_at opened key (option_map change o)) there)
+
+-- nothing stands there
+pub none_changed : (opened : slots.Slab OpenConnection) (key : ℕ)
+    (change : OpenConnection → OpenConnection) → slots.get opened key ≡ None
+    → opened ≡ with_changed opened key change
+none_changed opened key change none =
+    sym (ap (λ o. put_at opened key (option_map change o)) none)
 
 -- a connection went
 pub gone : (s t : slots.Slab OpenConnection) (key : ℕ) → slots.Updates s t key None

@@ -15,12 +15,15 @@ ghost use Rattle.fwd_reader.specs.OpenConnections.{
 };
 ghost use Rattle.fwd_reader.specs.Tellings.{AreTold, IsToldAt, IsToldOf, sources_without};
 
+mod queues;
+
 use crate::admission::EvictionCandidate;
 use crate::deadlines::{Deadlines, Unidentified};
 use crate::peer::{HEAD_LIMIT, LOGIN_LIMIT, Peer};
 use fwd_book::Receipt;
 use fwd_peers::{PeerAddress, SourcePeer};
 use mio::{Interest, Registry, Token};
+pub use queues::Ready;
 use slab::Slab;
 use std::alloc::{AllocError, Global};
 use std::collections::{BTreeMap, VecDeque};
@@ -172,14 +175,6 @@ pub struct Connections {
     kept: usize,
     /// The most that are.
     kept_limit: usize,
-}
-
-/// A connection that is ready to be read, or may be written.
-pub struct Ready<'a> {
-    pub key: usize,
-    /// It is to be read to its end.
-    pub to_end: bool,
-    pub connection: &'a mut Peer,
 }
 
 impl Connections {
@@ -359,95 +354,6 @@ impl Connections {
         Some(&mut self.opened.get_mut(key)?.connection)
     }
 
-    /// A connection may be read; to its end, where the system told that it closed or failed.
-    pub fn note_ready(&mut self, key: usize, is_closing: bool) {
-        let Some(opened) = self.opened.get_mut(key) else {
-            return;
-        };
-        opened.is_closing = opened.is_closing || is_closing;
-        if !opened.is_ready {
-            opened.is_ready = true;
-            // Room for it was made when the connection came.
-            let _ = self.ready.push_back(key);
-        }
-    }
-
-    /// A connection has something to be sent, or may take it now.
-    pub fn note_writable(&mut self, key: usize) {
-        let Some(opened) = self.opened.get_mut(key) else {
-            return;
-        };
-        if !opened.is_writable {
-            opened.is_writable = true;
-            // Room for it was made when the connection came.
-            let _ = self.writable.push_back(key);
-        }
-    }
-
-    /// A source's requests wait from a moment (milliseconds) until others are answered or settled.
-    pub fn note_waiting(&mut self, key: usize, now: u64) {
-        let Some(opened) = self.opened.get_mut(key) else {
-            return;
-        };
-        if opened.waiting_since.is_none() {
-            opened.waiting_since = Some(now);
-            self.crowding = self.crowding.saturating_add(usize::from(!opened.is_kept));
-        }
-        if !opened.is_queued {
-            opened.is_queued = true;
-            // Room for it was made when the connection came.
-            let _ = self.waiting.push_back(key);
-        }
-    }
-
-    /// The same of a source whose other side is gone. It takes no place from now on, but where too
-    /// many do not already.
-    pub fn note_kept(&mut self, key: usize, now: u64) {
-        self.note_waiting(key, now);
-        if self.kept >= self.kept_limit {
-            return;
-        }
-        let Some(opened) = self.opened.get_mut(key) else {
-            return;
-        };
-        if !opened.is_kept {
-            opened.is_kept = true;
-            self.kept = self.kept.saturating_add(1);
-            self.crowding = self.crowding.saturating_sub(1);
-        }
-    }
-
-    /// No request of a source waits any more.
-    pub fn note_admitted(&mut self, key: usize) {
-        let Some(opened) = self.opened.get_mut(key) else {
-            return;
-        };
-        if opened.waiting_since.take().is_some() && !opened.is_kept {
-            self.crowding = self.crowding.saturating_sub(1);
-        }
-    }
-
-    /// The sources whose requests wait are ready, in the order in which they came to wait. Nothing
-    /// is kept of why they wait: each asks again.
-    pub fn retry_waiting(&mut self) {
-        for _ in 0..self.waiting.len() {
-            self.retry_next();
-        }
-    }
-
-    /// The source that came to wait first is ready.
-    fn retry_next(&mut self) {
-        let Some(key) = self.waiting.pop_front() else {
-            return;
-        };
-        let Some(opened) = self.opened.get_mut(key) else {
-            return;
-        };
-        if mem::replace(&mut opened.is_queued, false) {
-            self.note_ready(key, false);
-        }
-    }
-
     /// The key of the source that could have given its place to a new one for longest at a moment
     /// (milliseconds), where it could for so long (milliseconds): it has been silent, and neither
     /// it nor the relay owes the other anything; or it waits with a request that it sends again.
@@ -493,40 +399,6 @@ impl Connections {
             Some(opened) => opened.is_crowding(),
             None => false,
         }
-    }
-
-    /// How many connections are ready.
-    pub fn ready(&self) -> usize {
-        self.ready.len()
-    }
-
-    /// How many connections may be written.
-    pub fn writable(&self) -> usize {
-        self.writable.len()
-    }
-
-    /// The next connection that is ready.
-    pub fn next_ready(&mut self) -> Option<Ready<'_>> {
-        let key = self.ready.pop_front()?;
-        let opened = self.opened.get_mut(key)?;
-        opened.is_ready = false;
-        Some(Ready {
-            key,
-            to_end: opened.is_closing,
-            connection: &mut opened.connection,
-        })
-    }
-
-    /// The next connection that may be written.
-    pub fn next_writable(&mut self) -> Option<Ready<'_>> {
-        let key = self.writable.pop_front()?;
-        let opened = self.opened.get_mut(key)?;
-        opened.is_writable = false;
-        Some(Ready {
-            key,
-            to_end: opened.is_closing,
-            connection: &mut opened.connection,
-        })
     }
 
     /// Tells each receipt to the source whose request it is of, where that still stands.

@@ -439,14 +439,12 @@ impl EventLoop {
         observer: &mut W,
         now: u64,
     ) {
-        let Some(ready) = self.connections.next_writable() else {
+        let Some(Ready { key, to_end }) = self.connections.next_writable() else {
             return;
         };
-        let Ready {
-            key,
-            to_end,
-            connection,
-        } = ready;
+        let Some(connection) = self.connections.at(key) else {
+            return;
+        };
         let after = match connection {
             Peer::Source(source) => {
                 let _ = tell_end(source, observer);
@@ -505,14 +503,12 @@ impl EventLoop {
         context: &mut ReadContext<'_, '_>,
         observer: &mut W,
     ) {
-        let Some(ready) = self.connections.next_ready() else {
+        let Some(Ready { key, to_end }) = self.connections.next_ready() else {
             return;
         };
-        let Ready {
-            key,
-            to_end,
-            connection,
-        } = ready;
+        let Some(connection) = self.connections.at(key) else {
+            return;
+        };
         let after = match connection {
             Peer::Source(_) if self.memory.is_refused(context.now) => {
                 self.memory.is_paused = true;

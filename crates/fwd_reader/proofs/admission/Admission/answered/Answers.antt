@@ -1,4 +1,4 @@
-use Rattle.std.proofs.Common.{arith, ◌≡◌, ◌≤◌, ◌-◌, refl, vec_len}
+use Rattle.std.proofs.Common.{arith, ◌≤◌, ◌-◌, refl, vec_len}
 use Rattle.fwd_reader.specs.Owing.{owed_at_each}
 use Rattle.fwd_reader.proofs.Owing.{line_changed, no_line, none_answered}
 use Rattle.fwd_reader.proofs.Refusing.{past}

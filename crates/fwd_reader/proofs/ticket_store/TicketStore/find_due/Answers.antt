@@ -1,4 +1,4 @@
-use Rattle.std.proofs.Common.{◌≡◌, [], true, false, inr, arith, subst}
+use Rattle.std.proofs.Common.{inr, arith, subst}
 use Rattle.fwd_reader.specs.Stores.{Looks}
 use Rattle.fwd_reader.proofs.ticket_store.TicketStore.find_due.Goals as goal
 
