@@ -255,7 +255,7 @@ def test_a_full_output_that_waits(stoppable, next_hop, readers):
     assert one.stop(120).status == 0
     got = {number for number in numbers(hop) if number >= 0}
     for place, source in enumerate(sources):
-        # The system holds some of it back until the relay has read. A source that asks sends that again.
+        # Of a source that asks not all that it sent is always taken. What it is not told of it sends again.
         told = told_to_the_end(source) if place % 2 else [str(number) for number in range(100)]
         assert told and told == [str(number) for number in range(len(told))]
         assert {number - 100 * place for number in got if number // 100 == place} == set(range(len(told)))
