@@ -248,18 +248,18 @@ module _ (kept new : ℕ → Option LinkedRequest) (ends new_ends : List (ℕ ×
       → own.link.earlier ≡ option_map (λ e. e.last) (ends_at ends conn) → own.link.later ≡ None
       → ((k : ℕ) → new k ≡ cond (slot == k) (Some own)
       (cond (is_the own.link.earlier k) (option_map (leads_to (Some slot)) (kept k)) (kept k)))
-      → ((c : ℕ) → ends_at new_ends c ≡ cond (conn == c) (Some (with_last slot (ends_at ends conn))) (ends_at ends c))
+      → ((c : ℕ) → ends_at new_ends c ≡ cond (conn == c) (Some (with_last own.request.origin.request slot (ends_at ends conn))) (ends_at ends c))
       → list_any (λ r. slot == r) (order conn) ≡ false
       → AreChained (λ c k. link_of c (new k)) new_ends (order_with conn slot order)
   kept_with conn slot own its empty is_earlier is_later written at_ends fresh =
-      chained_with (λ c k. link_of c (kept k)) (λ c k. link_of c (new k)) ends new_ends order conn slot own.link.earlier (with_last slot (ends_at ends conn)) is_earlier
+      chained_with (λ c k. link_of c (kept k)) (λ c k. link_of c (new k)) ends new_ends order conn slot own.link.earlier (with_last own.request.origin.request slot (ends_at ends conn)) is_earlier
       (firsts (ends_at ends conn)) (lasts (ends_at ends conn)) (λ c k. links c k (conn == c) refl) at_ends fresh chained
     where
-      firsts : (e : Option Ends) → (with_last slot e).first ≡ unwrap_or (option_map (λ (x : Ends). x.first) e) slot
+      firsts : (e : Option Ends) → (with_last own.request.origin.request slot e).first ≡ unwrap_or (option_map (λ (x : Ends). x.first) e) slot
       firsts None = refl
       firsts (Some e) = refl
 
-      lasts : (e : Option Ends) → (with_last slot e).last ≡ slot
+      lasts : (e : Option Ends) → (with_last own.request.origin.request slot e).last ≡ slot
       lasts None = refl
       lasts (Some e) = refl
 

@@ -1,6 +1,7 @@
 -- Tests and options: small facts.
-use Rattle.std.proofs.Common.{◌≡◌, ℕ, Bool, true, false, Some, None, refl, sym, ap, ◌∙◌}
-use Rattle.std.specs.Prelude.{not, ◌&&◌, ◌||◌, ◌==◌, nat_eq}
+use Rattle.std.proofs.Common.{◌≡◌, ℕ, Bool, true, false, cond, Some, None, List, [], ◌∷◌, refl, sym, ap, ◌∙◌}
+use Rattle.std.specs.Prelude.{not, filter, find, ◌&&◌, ◌||◌, ◌==◌, nat_eq}
+use Rattle.std.specs.List.{list_any}
 use Rattle.std.specs.Bool.{Decides}
 use Rattle.fwd_chunks.specs.declared.span.Span.{Span}
 use Rattle.std.proofs.lemmas.Bool.{eqb-true, eqb-false, eq-eqb}
@@ -75,3 +76,35 @@ origin-is a b same =
     let conn : a.conn ≡ b.conn = eqb-true a.conn b.conn (both_left (a.conn == b.conn) (a.request == b.request) same) in
     let request : a.request ≡ b.request = eqb-true a.request b.request (both_right (a.conn == b.conn) (a.request == b.request) same) in
     λ i. record { conn = sym conn i; request = sym request i }
+
+-- an origin is its own
+pub same-origin : (o : Origin) → is_origin o o ≡ true
+same-origin o = λ i. eq-eqb o.conn o.conn refl i && eq-eqb o.request o.request refl i
+
+-- ---- what is not there
+
+pub find_none : {X : Type 0} (p : X → Bool) (xs : List X) → list_any p xs ≡ false → find p xs ≡ None
+find_none p [] none = refl
+find_none p (x ∷ xs) none =
+    ap (λ b. cond b (Some x) (find p xs)) (neither_left (p x) (list_any p xs) none) ∙ find_none p xs (neither_right (p x) (list_any p xs) none)
+
+pub filter_none : {X : Type 0} (p : X → Bool) (xs : List X) → list_any p xs ≡ false
+    → filter (λ x. not (p x)) xs ≡ xs
+filter_none p [] none = refl
+filter_none p (x ∷ xs) none =
+    (λ i. cond (not (neither_left (p x) (list_any p xs) none i)) (x ∷ filter (λ y. not (p y)) xs) (filter (λ y. not (p y)) xs))
+    ∙ ap (λ ys. x ∷ ys) (filter_none p xs (neither_right (p x) (list_any p xs) none))
+
+pub any_none : {X : Type 0} (p : X → Bool) (xs : List X) → find p xs ≡ None → list_any p xs ≡ false
+any_none p [] none = refl
+any_none p (x ∷ xs) none = by (p x) none (any_none p xs)
+  where
+    by : (a : Bool) → cond a (Some x) (find p xs) ≡ None
+        → (find p xs ≡ None → list_any p xs ≡ false) → (a || list_any p xs) ≡ false
+    by true n more = absurd (none_some (sym n))
+    by false n more = more n
+
+pub none_pass : {X : Type 0} (p : X → Bool) (xs : List X) → ((x : X) → p x ≡ false)
+    → list_any p xs ≡ false
+none_pass p [] none = refl
+none_pass p (x ∷ xs) none = ap (λ b. b || list_any p xs) (none x) ∙ none_pass p xs none

@@ -15,10 +15,8 @@ use Rattle.fwd_book.specs.History.{BookSetting, Entered, is_origin, is_among, re
 use Rattle.fwd_book.specs.Receipts.{part_of, parts_of, once}
 use Rattle.fwd_book.specs.Live.{LiveBook, found_under, found_for, evidence_for, live_left, live_leaves, AreApart}
 use Rattle.fwd_book.specs.ChunkRefs.{ChunkRef, note_at, uses_in, found_in, found_at, used_more, used_less, put_in, uses_of, AreOf, HasRoom, live_of}
-use Rattle.fwd_book.proofs.Facts.{apart, none_some, is_not, or-false}
+use Rattle.fwd_book.proofs.Facts.{apart, none_some, is_not, or-false, origin-is, any_none, find_none, filter_none}
 use Rattle.fwd_book.proofs.Found.{for-alike, for-found, for-none, under-alike, numbered}
-use Rattle.fwd_book.proofs.Slotting.{any_none, find_none, filter_none, same_key}
-use Rattle.fwd_book.specs.Slots.{key_of}
 use Rattle.fwd_book.proofs.Sound.{find_left}
 use Rattle.fwd_book.proofs.Following.{any-last, left-found, none-found, enters-found, kept-then, any-filter}
 use Rattle.std.proofs.lemmas.Option.{same_Some}
@@ -260,7 +258,7 @@ alone-there qs o p same none = any_none (λ r. is_origin o r.origin) qs (find-as
   where
     find-as : (rs : List Entered) → request_at rs o ≡ request_at rs p
     find-as [] = refl
-    find-as (r ∷ rs) = λ i. cond (same_key (key_of o) (key_of p) same (key_of r.origin) i) (Some r) (find-as rs i)
+    find-as (r ∷ rs) = λ i. cond (is_origin (sym (origin-is o p same) i) r.origin) (Some r) (find-as rs i)
 
 module _ (n : ℕ) (o : Origin) (q : Entered) where
   pub uses-left : (qs : List Entered) → AreApart qs → request_at qs o ≡ Some q

@@ -2,10 +2,8 @@ mod Examples
 pub mod Facts
 pub mod Found
 pub mod Noting
-pub mod Slotting
 pub mod Linking
 pub mod Chaining
-pub mod Leading
 pub mod Standing
 pub mod Seats
 pub mod Keeping

@@ -1,5 +1,5 @@
 -- A connection's requests, linked to one another.
-use Rattle.std.proofs.Common.{◌≡◌, ℕ, Bool, true, false, cond, zero, suc, take, Option, Some, None, List, [], ◌∷◌, ◌++◌, refl, sym, ap, subst, ◌∙◌}
+use Rattle.std.proofs.Common.{length, ◌≡◌, ℕ, Bool, true, false, cond, zero, suc, take, Option, Some, None, List, [], ◌∷◌, ◌++◌, refl, sym, ap, subst, ◌∙◌}
 use Rattle.std.specs.Prelude.{not, ◌||◌, ◌==◌, is_some, filter, option_map, option_and_then, unwrap_or, slice_get}
 use Rattle.std.specs.List.{list_any}
 use Rattle.std.proofs.lemmas.Bool.{eqb-true, eq-eqb}
@@ -377,6 +377,22 @@ once_without (r ∷ rs) n once = by (n == r) (once_without rs n once.1)
         → AreOnce (cond (not b) (r ∷ filter (λ s. not (n == s)) rs) (filter (λ s. not (n == s)) rs))
     by true more = more
     by false more = (still rs once.0, more)
+
+-- without one there is one less
+pub length_without : (rs : List ℕ) (n : ℕ) → AreOnce rs → list_any (λ r. n == r) rs ≡ true
+    → suc (length (filter (λ r. not (n == r)) rs)) ≡ length rs
+length_without [] n once among = absurd (apart among)
+length_without (r ∷ rs) n once among = by (n == r) refl among (length_without rs n once.1)
+  where
+    rest : List ℕ
+    rest = filter (λ s. not (n == s)) rs
+
+    by : (a : Bool) → (n == r) ≡ a → (a || list_any (λ s. n == s) rs) ≡ true
+        → (list_any (λ s. n == s) rs ≡ true → suc (length rest) ≡ length rs)
+        → suc (length (cond (not a) (r ∷ rest) rest)) ≡ suc (length rs)
+    by true e f more =
+        ap (λ xs. suc (length xs)) (all_stay rs n (subst (λ k. list_any (λ s. k == s) rs ≡ false) (sym (eqb-true n r e)) once.0))
+    by false e f more = ap suc (more f)
 
 -- the first and the last without one
 pub first_without : (rs : List ℕ) (n : ℕ) (link : RequestLinks) → AreOnce rs → link_in None rs n ≡ Some link

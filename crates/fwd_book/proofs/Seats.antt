@@ -68,11 +68,8 @@ pub either-request : (b : Bool) (x y : Option LinkedRequest) → request_of x �
 either-request true x y same = same
 either-request false x y same = refl
 
--- and once one leaves
-pub held-without : (key k : ℕ) (kept : Option LinkedRequest)
-    → request_of (cond (key == k) None kept) ≡ cond (key == k) None (request_of kept)
-held-without key k kept = by (key == k)
-  where
-    by : (a : Bool) → request_of (cond a None kept) ≡ cond a None (request_of kept)
-    by true = refl
-    by false = refl
+-- one of two is read
+pub held-either : (a : Bool) (x y : Option LinkedRequest)
+    → request_of (cond a x y) ≡ cond a (request_of x) (request_of y)
+held-either true x y = refl
+held-either false x y = refl

@@ -2,12 +2,11 @@
 use Rattle.std.proofs.Common.{◌≡◌, ℕ, length, Bool, true, false, cond, zero, suc, Some, None, List, [], ◌∷◌, ◌++◌, refl, sym, ap, ◌∙◌}
 use Rattle.std.specs.Prelude.{map, filter, find, not, ◌&&◌, ◌||◌, ◌==◌, slice_get}
 use Rattle.std.specs.List.{flat_map}
-use Rattle.std.proofs.lemmas.Bool.{eq-eqb}
 use Rattle.fwd_modes.specs.declared.origin.Origin.{Origin}
 use Rattle.fwd_book.specs.History.{Entered, is_origin, is_among, is_of, request_at, evidence_of, is_settled}
 use Rattle.fwd_book.specs.Receipts.{Receipt, receipt_of, receipt_if, once, receipts}
 use Rattle.fwd_book.specs.Live.{LiveBook, live_drops, live_leaves, live_forgets_of, live_owed_of, evidence_for, AreApart}
-use Rattle.fwd_book.proofs.Facts.{apart, none_some, origin-is, or-false}
+use Rattle.fwd_book.proofs.Facts.{apart, none_some, origin-is, or-false, same-origin}
 use Rattle.fwd_book.proofs.Found.{numbered}
 use Rattle.fwd_book.proofs.Following.{filter-alike, filter-at, left-found}
 use Rattle.fwd_book.proofs.Right.{found_stands}
@@ -15,9 +14,6 @@ use Rattle.std.proofs.lemmas.Option.{same_Some}
 
 abbrev origins_of : List Entered → List Origin
 origins_of qs = map (λ q. q.origin) qs
-
-same-origin : (o : Origin) → is_origin o o ≡ true
-same-origin o = λ i. eq-eqb o.conn o.conn refl i && eq-eqb o.request o.request refl i
 
 -- an origin that is looked for among requests that have not got it
 none-there : (qs : List Entered) (o : Origin) → request_at qs o ≡ None → (i : ℕ) (q : Entered)

@@ -8,6 +8,7 @@ use Rattle.std.specs.Prelude.{
   ◌-◌,
   ◌==◌,
   Bool,
+  true,
   List,
   length,
   filter,
@@ -56,6 +57,11 @@ found_at notes number = found_in (note_at number notes)
 -- something is noted as acknowledged under the number of each of the request's runs
 abbrev pub are_found : List (ℕ × ChunkRef) → Entered → Bool
 are_found notes q = list_all (λ s. is_some (found_at notes s.number)) q.spans
+
+-- all requests are asked for, or those alone for which all is noted
+abbrev pub is_asked : Option ChunkRefsShown → Entered → Bool
+is_asked None q = true
+is_asked (Some refs) q = are_found refs.notes q
 
 -- one request more has the number
 abbrev pub used_more : Option ChunkRef → ChunkRef

@@ -1,14 +1,15 @@
 -- How the code finds a connection's requests: each request in a slot is linked to the earlier and
 -- to the later one of its own connection, and a connection's first and last are known.
-use Rattle.std.specs.Prelude.{◌≡◌, ◌==◌, ℕ, Bool, false, not, List, [], ◌∷◌, ◌++◌, Option, None, Some, map, filter, option_map, option_to_list, slice_get, if◌then◌else◌}
-use Rattle.std.specs.List.{list_any}
+use Rattle.std.specs.Prelude.{◌≡◌, ◌==◌, ◌≤◌, ℕ, Bool, true, false, not, List, [], ◌∷◌, ◌++◌, length, max, Option, None, Some, IsSome, IfSome, map, filter, option_map, option_to_list, slice_get, if◌then◌else◌}
+use Rattle.std.specs.List.{list_any, AllByRecursion}
 use Rattle.std.specs.Map.{lookup}
-use Rattle.slab.specs.Slab.{Slab, get}
+use Rattle.slab.specs.Slab.{Slab, get, slab_len}
 use Rattle.fwd_modes.specs.declared.origin.Origin.{Origin}
 use Rattle.fwd_book.specs.declared.connection_index.RequestLinks.{RequestLinks}
 use Rattle.fwd_book.specs.declared.connection_index.Ends.{Ends}
 use Rattle.fwd_book.specs.declared.connection_index.LinkedRequest.{LinkedRequest}
-use Rattle.fwd_book.specs.History.{Entered, is_of}
+use Rattle.fwd_book.specs.History.{Entered, is_of, is_origin}
+use Rattle.fwd_book.specs.Slots.{held_at, order_by}
 
 -- the link of a request that is kept, if it is the connection's
 abbrev pub link_of : ℕ → Option LinkedRequest → Option RequestLinks
@@ -56,14 +57,11 @@ leads_to later k = record { request = k.request; link = with_later later k.link 
 abbrev pub follows_on : Option ℕ → LinkedRequest → LinkedRequest
 follows_on earlier k = record { request = k.request; link = with_earlier earlier k.link }
 
--- the ends with this slot behind the others, if there are any
-abbrev pub with_last : ℕ → Option Ends → Ends
-with_last slot None = record { first = slot; last = slot }
-with_last slot (Some e) = record { first = e.first; last = slot }
-
--- the origin of the request in a slot, by what the slots hold
-abbrev pub origin_at : (ℕ → Option Entered) → ℕ → Option Origin
-origin_at held slot = option_map (λ q. q.origin) (held slot)
+-- the ends with a request of this number behind the others, if there are any, in this slot
+abbrev pub with_last : ℕ → ℕ → Option Ends → Ends
+with_last number slot None = record { first = slot; last = slot; greatest = number }
+with_last number slot (Some e) =
+    record { first = e.first; last = slot; greatest = max e.greatest number }
 
 -- the origin of the request in a slot, by what the slots hold, if it passes the test
 abbrev pub passing_at : (Entered → Bool) → (ℕ → Option Entered) → ℕ → List Origin
@@ -91,3 +89,24 @@ pub record AreChained
   pub first : (conn : ℕ) → option_map (λ e. e.first) (ends_at ends conn) ≡ slice_get (order conn) 0
   pub last : (conn : ℕ) → option_map (λ e. e.last) (ends_at ends conn) ≡ last_of None (order conn)
   pub once : (conn : ℕ) → AreOnce (order conn)
+
+-- no request's number is above the greatest that its connection's ends tell
+abbrev pub AreWithin : (ℕ → Option Entered) → List (ℕ × Ends) → Type 0
+AreWithin held ends = (slot : ℕ) (q : Entered) → held slot ≡ Some q
+    → IfSome (ends_at ends q.origin.conn) (λ e. q.origin.request ≤ e.greatest)
+
+-- no two slots hold a request of one origin
+abbrev pub AreUnlike : (ℕ → Option Entered) → Type 0
+AreUnlike held = (k m : ℕ) (q r : Entered) → held k ≡ Some q → held m ≡ Some r
+    → is_origin q.origin r.origin ≡ true → k ≡ m
+
+-- These are the slots of what is kept, in some order: each holds a request and stands once, no
+-- other does, no two requests have one origin, and each connection's are chained in this order.
+pub record AreKept (kept : Slab LinkedRequest) (ends : List (ℕ × Ends)) (order : List ℕ)
+    : Type 0 where
+  pub chained : AreChained (link_at kept) ends (order_by (held_at kept) order)
+  pub within : AreWithin (held_at kept) ends
+  pub unlike : AreUnlike (held_at kept)
+  pub held : AllByRecursion (λ k. IsSome (held_at kept k)) order
+  pub once : AreOnce order
+  pub count : slab_len kept ≡ length order

@@ -7,6 +7,7 @@ ghost use Rattle.std.specs.Prelude.{
   ◌≢◌,
   ◌<◌,
   ◌≤◌,
+  ◌+◌,
   ◌^◌,
   ℕ,
   true,
@@ -78,7 +79,7 @@ use crate::chunk_refs::ChunkRefs;
 use crate::entered_request::EnteredRequest;
 use crate::laws::receipts_are_right;
 use crate::receipt::Receipt;
-use crate::requests::Requests;
+use crate::requests::{NO_SLOT, Requests};
 use fwd_chunks::{Span, Spans};
 use fwd_modes::{Batch, Origin};
 use fwd_session::Acked;
@@ -130,13 +131,10 @@ impl Model for Book {
         × HasRoom b.ready b.requests.room b.chunk_refs.room };
 }
 
-/// The slot of no request.
-const NO_SLOT: usize = usize::MAX;
-
 /// One request more has the numbers of these runs, which rise.
 fn use_all(chunk_refs: &mut ChunkRefs, spans: &[Span])
     requires room { length spans.now ≤ chunk_refs.old.room }
-    requires few { (n : ℕ) → uses_in (note_at n chunk_refs.old.notes) < 2 ^ 63 }
+    requires few { (n : ℕ) → uses_in (note_at n chunk_refs.old.notes) + 1 < 2 ^ 64 }
     requires rising { AreRising (map (λ s. s.number) spans.now) }
     ensures { (n : ℕ) → note_at n chunk_refs.new.notes
         ≡ (if list_any (λ s. s.number == n) spans.now
@@ -271,7 +269,7 @@ impl Book {
     pub fn holds(&self, origin: Origin) -> bool
         ensures { result ≡ is_some (request_at self.now.live.requests origin) }
     {
-        self.requests.get(origin).is_some()
+        self.requests.get_at(NO_SLOT, origin).is_some()
     }
 
     /// The request of an origin leaves, which may stand in this slot. Answers whether it was there.
@@ -299,9 +297,10 @@ impl Book {
         ensures same { IfNone result (self.new ≡ self.old) }
         ensures sound { IsSound self.old.live }
     {
-        let kept = self.requests.take_first(conn)?;
-        leave_all(&mut self.chunk_refs, kept.spans());
-        Some(kept.origin())
+        self.is_sound(); // for the proof
+        let origin = self.requests.first_of(conn)?;
+        self.leave_at(NO_SLOT, origin);
+        Some(origin)
     }
 
     /// A server acknowledged a chunk: it is kept where some request has entries in it. Answers how
@@ -355,7 +354,7 @@ impl Book {
         ensures { IfOk result (λ origins. origins.items
             ≡ map (λ q. q.origin) (filter (is_of conn) self.now.live.requests)) }
     {
-        self.requests.origins_of(alloc, conn)
+        self.requests.origins(alloc, conn, None)
     }
 
     /// The requests of a connection leave: nobody is to be told any more. Answers how many there
@@ -377,7 +376,7 @@ impl Book {
     pub fn is_settled(&self, origin: Origin) -> bool
         ensures { result ≡ live_is_settled self.now.live origin }
     {
-        match self.requests.get(origin) {
+        match self.requests.get_at(NO_SLOT, origin) {
             None => false,
             Some(kept) => self.chunk_refs.has_all(kept.spans()),
         }
@@ -399,7 +398,7 @@ impl Book {
             ≡ map (λ q. q.origin) (live_due self.now.live conn)) }
         ensures none { live_due self.now.live conn ≡ [] → IsOk result }
     {
-        self.requests.due(alloc, conn, &self.chunk_refs)
+        self.requests.origins(alloc, conn, Some(&self.chunk_refs))
     }
 
     /// The bytes of the option's `chunk` value of an origin's request, as they were sent, if the
@@ -408,7 +407,7 @@ impl Book {
         ensures { option_copied result
             ≡ option_and_then (λ q. q.chunk) (request_at self.now.live.requests origin) }
     {
-        self.requests.get(origin)?.request().chunk()
+        self.requests.get_at(NO_SLOT, origin)?.request().chunk()
     }
 
     /// Whether this request is owed an answer under this origin, with these runs of its entries.
@@ -418,7 +417,7 @@ impl Book {
         ensures other { result ≡ false → request_at self.now.live.requests origin
             ≢ Some (entered_as batch.now origin spans.now) }
     {
-        match self.requests.get(origin) {
+        match self.requests.get_at(NO_SLOT, origin) {
             None => false,
             Some(kept) => kept.is_of(batch, spans),
         }
@@ -495,7 +494,7 @@ impl Book {
             ≡ receipt_if self.now.live.settled (request_at self.now.live.requests origin)) }
         ensures none { live_is_settled self.now.live origin ≡ false → IsOk result }
     {
-        match self.requests.get(origin) {
+        match self.requests.get_at(NO_SLOT, origin) {
             None => Ok(None),
             Some(kept) => self.receipt_of(alloc, kept),
         }

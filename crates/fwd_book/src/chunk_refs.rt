@@ -89,7 +89,7 @@ impl ChunkRefs {
     /// One request more has the number.
     pub(crate) fn more(&mut self, number: u64)
         requires room { 0 < self.old.room }
-        requires few { uses_in (note_at number self.old.notes) < 2 ^ 63 }
+        requires few { uses_in (note_at number self.old.notes) + 1 < 2 ^ 64 }
         ensures noted { (n : ℕ) → note_at n self.new.notes
             ≡ (if number == n then Some (used_more (note_at number self.old.notes))
             else note_at n self.old.notes) }

@@ -6,20 +6,23 @@ ghost use Rattle.std.specs.Prelude.{
   ◌≡◌,
   ◌<◌,
   ◌≤◌,
+  ◌+◌,
   ◌&&◌,
   ◌==◌,
   ℕ,
   List,
   [],
   false,
+  true,
   None,
   Some,
   IsSome,
+  IfSome,
+  IfNone,
   is_some,
   length,
   option_copied,
   option_map,
-  option_to_list,
   not,
   if◌then◌else◌,
   IfOk,
@@ -29,20 +32,20 @@ ghost use Rattle.std.specs.Prelude.{
 ghost use Rattle.std.specs.List.{flat_map, list_any};
 ghost use Rattle.indexmap.specs.IndexMap.{spare};
 ghost use Rattle.slab.specs.Slab.{get, slab_len};
-ghost use Rattle.fwd_book.specs.ChunkRefs.{are_found};
-ghost use Rattle.fwd_book.specs.Slots.{key_of, held_at, keyed};
+ghost use Rattle.fwd_book.specs.ChunkRefs.{is_asked};
+ghost use Rattle.fwd_book.specs.Slots.{has_origin, held_at};
 ghost use Rattle.fwd_book.specs.Links.{
   ends_at,
   is_the,
   leads_to,
   follows_on,
   link_at,
-  origin_at,
   passing_at,
   with_last,
   order_with,
   order_without,
   AreChained,
+  AreWithin,
 };
 
 use crate::chunk_refs::ChunkRefs;
@@ -59,11 +62,13 @@ pub(crate) struct RequestLinks {
     later: Option<usize>,
 }
 
-/// The slots of a connection's first and last request.
+/// The slots of a connection's first and last request, and a number that none of its requests is
+/// above: the greatest since it had none.
 #[derive(Clone, Copy)]
 pub(crate) struct Ends {
     first: usize,
     last: usize,
+    greatest: u64,
 }
 
 /// A request with its link.
@@ -113,25 +118,28 @@ fn set_earlier(kept: &mut Slab<LinkedRequest>, slot: Option<usize>, earlier: Opt
     }
 }
 
-/// A request in this slot is its connection's last. Answers the slot of the one before it, if there
-/// is one.
-fn put_last(ends: &mut IndexMap<u64, Ends>, conn: u64, slot: usize) -> Option<usize>
+/// The request of an origin is its connection's last, in this slot. Answers the slot of the one
+/// before it, if there is one.
+fn put_last(ends: &mut IndexMap<u64, Ends>, origin: Origin, slot: usize) -> Option<usize>
     requires { 0 < spare ends.old }
-    ensures earlier { result ≡ option_map (λ e. e.last) (ends_at ends.old.entries conn) }
+    ensures earlier { result ≡ option_map (λ e. e.last) (ends_at ends.old.entries origin.conn) }
     ensures last { (c : ℕ) → ends_at ends.new.entries c
-        ≡ (if conn == c then Some (with_last slot (ends_at ends.old.entries conn))
+        ≡ (if origin.conn == c
+        then Some (with_last origin.request slot (ends_at ends.old.entries origin.conn))
         else ends_at ends.old.entries c) }
 {
-    if let Some(ends) = ends.get_mut(&conn) {
+    if let Some(ends) = ends.get_mut(&origin.conn) {
         let earlier = ends.last;
         ends.last = slot;
+        ends.greatest = ends.greatest.max(origin.request);
         return Some(earlier);
     }
     let alone = Ends {
         first: slot,
         last: slot,
+        greatest: origin.request,
     };
-    let Ok(_) = ends.insert(conn, alone) else {
+    let Ok(_) = ends.insert(origin.conn, alone) else {
         unreachable!();
     };
     None
@@ -147,6 +155,8 @@ fn leave_ends(ends: &mut IndexMap<u64, Ends>, conn: u64, link: RequestLinks)
         → (c : ℕ) → option_map (λ e. e.last) (ends_at ends.new.entries c)
         ≡ (if (conn == c) && not (is_some link.later) then link.earlier
         else option_map (λ e. e.last) (ends_at ends.old.entries c)) }
+    ensures greatest { (c : ℕ) → IfSome (ends_at ends.new.entries c) (λ e.
+        option_map (λ d. d.greatest) (ends_at ends.old.entries c) ≡ Some e.greatest) }
     ensures room { spare ends.old ≤ spare ends.new }
 {
     match (link.earlier, link.later) {
@@ -167,10 +177,21 @@ fn leave_ends(ends: &mut IndexMap<u64, Ends>, conn: u64, link: RequestLinks)
     }
 }
 
+/// Whether a request's entries are all acknowledged, by these numbers if there are some.
+fn is_asked(request: &EnteredRequest, chunk_refs: Option<&ChunkRefs>) -> bool
+    ensures { result ≡ is_asked (option_copied chunk_refs.entry) request.now }
+{
+    match chunk_refs {
+        None => true,
+        Some(chunk_refs) => chunk_refs.has_all(request.spans()),
+    }
+}
+
 impl ConnectionIndex {
     /// No requests.
     pub(crate) fn new(alloc: Global) -> Self
-        ensures { AreChained (link_at result.kept) result.ends.entries (λ _. []) }
+        ensures chained { AreChained (link_at result.kept) result.ends.entries (λ _. []) }
+        ensures empty { result.kept.slots ≡ [] }
     {
         ConnectionIndex {
             kept: Slab::new(alloc),
@@ -191,91 +212,106 @@ impl ConnectionIndex {
         self.ends.reserve(1)
     }
 
+    /// How many requests have room, with those that are here.
+    pub(crate) fn capacity(&self) -> usize
+        ensures room { result ≡ self.now.kept.capacity }
+        ensures all { slab_len self.now.kept ≤ result }
+    {
+        self.kept.capacity()
+    }
+
     /// The slot of a connection's first request, if it has one.
     pub(crate) fn first(&self, conn: u64) -> Option<usize>
         ensures { result ≡ option_map (λ e. e.first) (ends_at self.now.ends.entries conn) }
     {
-        match self.ends.get(&conn) {
-            None => None,
-            Some(ends) => Some(ends.first),
-        }
+        Some(self.ends.get(&conn)?.first)
     }
 
-    /// The request in a slot, if it is the one of the origin.
-    pub(crate) fn get(&self, slot: usize, origin: Origin) -> Option<&EnteredRequest>
-        ensures { option_copied result ≡ keyed (key_of origin) (held_at self.now.kept slot) }
+    /// The request in a slot, if there is one.
+    pub(crate) fn at(&self, slot: usize) -> Option<&EnteredRequest>
+        ensures { option_copied result ≡ held_at self.now.kept slot }
     {
         let kept = self.kept.get(slot)?;
-        let own = kept.request.origin();
-        if origin.conn == own.conn && origin.request == own.request {
-            Some(&kept.request)
-        } else {
-            None
+        Some(&kept.request)
+    }
+
+    /// Whether the request in a slot is the one of the origin.
+    fn has_at(&self, slot: usize, origin: Origin) -> bool
+        ensures { result ≡ has_origin origin (held_at self.now.kept slot) }
+    {
+        match self.at(slot) {
+            None => false,
+            Some(request) => {
+                let own = request.origin();
+                origin.conn == own.conn && origin.request == own.request
+            }
         }
     }
 
-    /// The origins of a connection's requests, which are not more than so many, in their order.
+    /// The slot of the request of an origin, if it has one. It may stand in this slot: if it does
+    /// not, its connection's requests are gone through, unless its number is above those of all.
+    pub(crate) fn find_at(&self, likely: usize, origin: Origin) -> Option<usize>
+        ensures found { IfSome result (λ slot.
+            has_origin origin (held_at self.now.kept slot) ≡ true) }
+        ensures none { (order : ℕ → List ℕ)
+            → AreChained (link_at self.now.kept) self.now.ends.entries order
+            → AreWithin (held_at self.now.kept) self.now.ends.entries
+            → length (order origin.conn) ≤ slab_len self.now.kept → IfNone result
+            (list_any (λ k. has_origin origin (held_at self.now.kept k)) (order origin.conn)
+            ≡ false) }
+    {
+        if self.has_at(likely, origin) {
+            return Some(likely);
+        }
+        let ends = self.ends.get(&origin.conn)?;
+        if ends.greatest < origin.request {
+            return None;
+        }
+        let mut next = Some(ends.first);
+        for _ in 0..self.kept.len() {
+            let slot = next?;
+            if self.has_at(slot, origin) {
+                return Some(slot);
+            }
+            next = self.kept.get(slot)?.link.later;
+        }
+        None
+    }
+
+    /// The origins of a connection's requests, in their order: of all, or of those alone whose
+    /// entries are all acknowledged, by these numbers. The only error is out of memory, and where
+    /// there are none it takes no memory.
     pub(crate) fn origins(
         &self,
         alloc: Global,
         conn: u64,
-        most: usize,
+        chunk_refs: Option<&ChunkRefs>,
     ) -> Result<Vec<Origin>, AllocError>
-        ensures { (order : ℕ → List ℕ)
+        ensures asked { (order : ℕ → List ℕ)
             → AreChained (link_at self.now.kept) self.now.ends.entries order
-            → length (order conn) ≤ most → IfOk result (λ origins. origins.items
-            ≡ flat_map (λ k. option_to_list (origin_at (held_at self.now.kept) k)) (order conn)) }
+            → length (order conn) ≤ slab_len self.now.kept → IfOk result (λ origins. origins.items
+            ≡ flat_map (passing_at (is_asked (option_copied chunk_refs.entry))
+            (held_at self.now.kept)) (order conn)) }
+        ensures none { (order : ℕ → List ℕ)
+            → AreChained (link_at self.now.kept) self.now.ends.entries order
+            → flat_map (passing_at (is_asked (option_copied chunk_refs.entry))
+            (held_at self.now.kept)) (order conn) ≡ [] → IsOk result }
     {
         let mut origins = Vec::new(alloc);
         let mut next = self.first(conn);
-        for _ in 0..most {
+        for _ in 0..self.kept.len() {
             let Some(slot) = next else {
                 break;
             };
             let Some(kept) = self.kept.get(slot) else {
                 break;
             };
-            origins.push(kept.request.origin())?;
-            next = kept.link.later;
-        }
-        Ok(origins)
-    }
-
-    /// The origins of a connection's requests, which are not more than so many, whose entries are
-    /// all acknowledged, in their order. The only error is out of memory, and where there are none
-    /// it takes no memory.
-    pub(crate) fn due(
-        &self,
-        alloc: Global,
-        conn: u64,
-        most: usize,
-        chunk_refs: &ChunkRefs,
-    ) -> Result<Vec<Origin>, AllocError>
-        ensures due { (order : ℕ → List ℕ)
-            → AreChained (link_at self.now.kept) self.now.ends.entries order
-            → length (order conn) ≤ most → IfOk result (λ due. due.items
-            ≡ flat_map (passing_at (are_found chunk_refs.now.notes) (held_at self.now.kept))
-            (order conn)) }
-        ensures none { (order : ℕ → List ℕ)
-            → AreChained (link_at self.now.kept) self.now.ends.entries order
-            → flat_map (passing_at (are_found chunk_refs.now.notes) (held_at self.now.kept))
-            (order conn) ≡ [] → IsOk result }
-    {
-        let mut due = Vec::new(alloc);
-        let mut next = self.first(conn);
-        for _ in 0..most {
-            let Some(slot) = next else {
-                break;
-            };
-            let Some(kept) = self.kept.get(slot) else {
-                break;
-            };
-            if chunk_refs.has_all(kept.request.spans()) {
-                due.push(kept.request.origin())?;
+            if is_asked(&kept.request, chunk_refs) {
+                origins.push(kept.request.origin())?;
             }
             next = kept.link.later;
         }
-        Ok(due)
+        Ok(origins)
     }
 
     /// A request comes behind its connection's others, into room that was made for it. Answers its
@@ -291,9 +327,14 @@ impl ConnectionIndex {
             → list_any (λ k. result == k) (order request.origin.conn) ≡ false
             → AreChained (link_at self.new.kept) self.new.ends.entries
             (order_with request.origin.conn result order) }
+        ensures within { (order : ℕ → List ℕ)
+            → AreChained (link_at self.old.kept) self.old.ends.entries order
+            → AreWithin (held_at self.old.kept) self.old.ends.entries
+            → AreWithin (held_at self.new.kept) self.new.ends.entries }
+        ensures len { slab_len self.new.kept ≡ slab_len self.old.kept + 1 }
     {
         let slot = self.kept.vacant_key();
-        let earlier = put_last(&mut self.ends, request.origin().conn, slot);
+        let earlier = put_last(&mut self.ends, request.origin(), slot);
         set_later(&mut self.kept, earlier, Some(slot));
         let link = RequestLinks {
             earlier,
@@ -312,7 +353,9 @@ impl ConnectionIndex {
             → AreChained (link_at self.old.kept) self.old.ends.entries order
             → AreChained (link_at self.new.kept) self.new.ends.entries
             (order_without slot order) }
-        ensures len { slab_len self.new.kept ≤ slab_len self.old.kept }
+        ensures within { AreWithin (held_at self.old.kept) self.old.ends.entries
+            → AreWithin (held_at self.new.kept) self.new.ends.entries }
+        ensures len { IfSome result (λ _. slab_len self.new.kept + 1 ≡ slab_len self.old.kept) }
         ensures capacity { self.new.kept.capacity ≡ self.old.kept.capacity }
         ensures ends { spare self.old.ends ≤ spare self.new.ends }
     {

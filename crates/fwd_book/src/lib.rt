@@ -10,6 +10,7 @@ mod laws;
 mod receipt;
 mod refusal;
 mod requests;
+mod slot_order;
 
 pub use book::Book;
 pub use laws::{due_is_found, live_follows, origins_are_enough, receipts_are_right, stays_sound};

@@ -1,4 +1,4 @@
-use Rattle.std.proofs.Common.{arith, ◌≡◌, ◌<◌, ◌^◌, ℕ, Some, cond, take, refl, sym, ap, subst, ◌∙◌}
+use Rattle.std.proofs.Common.{arith, ◌≡◌, ◌<◌, ◌+◌, ◌^◌, ℕ, Some, cond, take, refl, sym, ap, subst, ◌∙◌}
 use Rattle.std.specs.Prelude.{◌==◌, slice_index_or}
 use Rattle.std.specs.List.{list_any}
 use Rattle.std.proofs.lemmas.List.{take_all}
@@ -18,7 +18,7 @@ more-requires-clause-few c =
     let d : Span = record { number = 0; from = 0; count = 0 } in
     let number : ℕ = (slice_index_or c.args.spans.now c.loop-span.span-index d).number in
     let same = unchanged (λ o. Some (used_more o)) (λ n. note_at n c.args.chunk_refs.now.notes) (λ n. note_at n c.loop-span.chunk_refs.notes) c.args.spans.now c.loop-span.span-index d c.loop-span-test.true c.requires.rising c.loop-span.invariant.noted in
-    subst (λ o. uses_in o < 2 ^ 63) (sym same) (c.requires.few number)
+    subst (λ o. uses_in o + 1 < 2 ^ 64) (sym same) (c.requires.few number)
 
 pub loop-span-preserved : goal.loop-span-preserved
 loop-span-preserved c =

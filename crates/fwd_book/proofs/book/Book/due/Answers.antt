@@ -13,12 +13,12 @@ returns-clause-due c =
     let found : map (λ q. q.origin) (filter (λ q. is_of c.args.conn q && are_found notes q) qs) ≡ map (λ q. q.origin) (live_due c.args.self.now.live c.args.conn) =
     (λ i. map (λ (q : Entered). q.origin) (filter (λ q. is_of c.args.conn q && settled-alike notes qs q c.self.invariant.0 i) qs))
     ∙ ap (λ (s : BookState). map (λ (q : Entered). q.origin) (live_due s.live c.args.conn)) c.self.view_is in
-    rw found at c.due.ensures.due
+    rw found at c.origins.ensures.asked
 
 pub returns-clause-none : goal.returns-clause-none
 returns-clause-none c = λ none.
     let notes : List (ℕ × ChunkRef) = c.self.inside.chunk_refs.notes in
     let qs : List Entered = c.self.inside.requests.items in
-    c.due.ensures.none
+    c.origins.ensures.none
     ((λ i. filter (λ q. is_of c.args.conn q && settled-alike notes qs q c.self.invariant.0 i) qs)
     ∙ ap (λ (s : BookState). live_due s.live c.args.conn) c.self.view_is ∙ none)

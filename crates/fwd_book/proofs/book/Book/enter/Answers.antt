@@ -1,4 +1,4 @@
-use Rattle.std.proofs.Common.{arith, ◌≡◌, ◌≤◌, ℕ, Some, None, true, cond, List, ◌++◌, ◌∷◌, [], length, filter, sym, ap, subst, ◌∙◌}
+use Rattle.std.proofs.Common.{arith, ◌≡◌, ◌≤◌, ◌<◌, ℕ, Some, None, true, cond, List, ◌++◌, ◌∷◌, [], length, filter, sym, ap, subst, ◌∙◌}
 use Rattle.std.specs.Prelude.{IfSome, ◌==◌}
 use Rattle.std.specs.List.{list_any}
 use Rattle.fwd_chunks.specs.declared.span.Span.{Span}
@@ -25,7 +25,9 @@ pub use_all-requires-clause-few : goal.use_all-requires-clause-few
 use_all-requires-clause-few c = λ n.
     let uses : uses_in (note_at n c.self.inside.chunk_refs.notes) ≡ length (filter (has_run n) c.self.inside.requests.items) = c.self.invariant.0.uses n in
     let few : length (filter (has_run n) c.self.inside.requests.items) ≤ length c.self.inside.requests.items = filter-few (has_run n) c.self.inside.requests.items in
-    omega (arith, uses, few, c.are_few.ensures)
+    let ready : c.self.inside.ready ≡ Some c.in-Some.request = sym c.take.ensures.value ∙ c.in-Some.is in
+    let place : 0 < c.self.inside.requests.room = (subst (λ o. HasRoom o c.self.inside.requests.room c.self.inside.chunk_refs.room) ready c.self.invariant.2).0 in
+    omega (arith, uses, few, place, c.are_few.ensures)
 
 pub invariant_of-self : goal.invariant_of-self
 invariant_of-self c =

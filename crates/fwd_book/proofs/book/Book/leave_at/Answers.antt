@@ -8,7 +8,7 @@ use Rattle.fwd_book.specs.History.{BookSetting, Entered, is_origin, request_at}
 use Rattle.fwd_book.specs.Live.{BookState, IsSound, found_for, evidence_for, live_leaves}
 use Rattle.fwd_book.specs.ChunkRefs.{ChunkRef, note_at, found_at, used_less, AreOf, live_of}
 use Rattle.fwd_book.proofs.Keeping.{less-of, less-shown, among-one, none-leaves, room-more}
-use Rattle.fwd_book.proofs.Slotting.{any_none, filter_none}
+use Rattle.fwd_book.proofs.Facts.{any_none, filter_none}
 use Rattle.fwd_book.proofs.Right.{found_stands}
 use Rattle.fwd_book.proofs.Sound.{sound-leaves}
 use Rattle.fwd_book.proofs.book.Book.leave_at.Goals as goal

@@ -8,7 +8,7 @@ use Rattle.fwd_book.proofs.chunk_refs.ChunkRefs.more.Goals as goal
 pub overflow_add-note : goal.overflow_add-note
 overflow_add-note c =
     let old : note_at c.args.number c.args.self.now.notes ≡ Some (view.the_view c.note.inside) = ap (λ (s : ChunkRefsShown). note_at c.args.number s.notes) (sym c.self.view_is) ∙ sym c.in-Some.ensures.value ∙ ap Some (sym c.note.view_is) in
-    let few : c.note.inside.uses < 2 ^ 63 = subst (λ o. uses_in o < 2 ^ 63) old c.requires.few in
+    let few : c.note.inside.uses + 1 < 2 ^ 64 = subst (λ o. uses_in o + 1 < 2 ^ 64) old c.requires.few in
     omega (arith, few)
 
 pub returns-in-Some-clause-noted : goal.returns-in-Some-clause-noted

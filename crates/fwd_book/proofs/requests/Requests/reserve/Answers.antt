@@ -1,16 +1,15 @@
-use Rattle.std.proofs.Common.{sym, subst, ℕ, List}
+use Rattle.std.proofs.Common.{ℕ, List, sym, subst}
 use Rattle.slab.specs.Slab.{Slab}
 use Rattle.fwd_book.specs.declared.connection_index.LinkedRequest.{LinkedRequest}
 use Rattle.fwd_book.specs.declared.connection_index.Ends.{Ends}
-use Rattle.fwd_book.specs.Slots.{Lead, held_at, order_by}
-use Rattle.fwd_book.specs.Links.{link_at, AreChained}
+use Rattle.fwd_book.specs.Links.{AreKept}
+use Rattle.fwd_book.proofs.Standing.{kept-room}
 use Rattle.fwd_book.proofs.requests.Requests.reserve.Goals as goal
 
-pub invariant_of-self-2 : goal.invariant_of-self-2
-invariant_of-self-2 c =
-    let old : Slab LinkedRequest = c.self-2.inside.by_connection.kept in (
-      c.reserve-2.ensures.unique,
-      subst (λ (kept : Slab LinkedRequest). AreChained (link_at kept) c.reserve-3.new.self.ends.entries (order_by (held_at kept) c.reserve-2.new.self.entries)) (sym c.reserve-3.ensures.kept)
-          (subst (λ (ends : List (ℕ × Ends)). AreChained (link_at old) ends (order_by (held_at old) c.reserve-2.new.self.entries)) (sym c.reserve-3.ensures.ends)
-          (subst (λ (index : List Lead). AreChained (link_at old) c.self-2.inside.by_connection.ends.entries (order_by (held_at old) index)) (sym c.reserve-2.ensures.entries) c.self-2.invariant.1)),
-    )
+pub invariant_of-self : goal.invariant_of-self
+invariant_of-self c =
+    let at = c.self.inside.by_connection in
+    let slots : List ℕ = c.self.inside.order.list in
+    subst (λ (kept : Slab LinkedRequest). AreKept kept c.reserve.new.self.ends.entries slots) (sym c.reserve.ensures.kept)
+    (subst (λ (ends : List (ℕ × Ends)). AreKept (record at.kept { capacity = c.reserve.new.self.kept.capacity }) ends slots) (sym c.reserve.ensures.ends)
+    (kept-room at.kept at.ends.entries slots c.self.invariant c.reserve.new.self.kept.capacity))

@@ -1,0 +1,9 @@
+-- An order has no bytes and owns nothing, so it may go to another thread.
+use denote.Param.Send.{IsSend}
+use Rattle.fwd_book.specs.contracts.slot_order.SlotOrder.{the_row}
+
+pub send : IsSend the_row
+send = record {
+  owned = λ d vs. ((λ vss. (tt, ((λ uss. (tt, tt)), tt))), tt);
+  leaving = λ k f vs. tt;
+}
