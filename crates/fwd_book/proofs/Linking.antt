@@ -154,22 +154,6 @@ relinked n earlier later m link =
     (option_map (with_earlier earlier) (cond (is_the earlier m) (option_map (with_later later) (cond (n == m) None link)) (cond (n == m) None link)))
     (cond (is_the earlier m) (option_map (with_later later) (cond (n == m) None link)) (cond (n == m) None link))
 
--- where there is none there comes none
-relinked_none : (n : ℕ) (earlier later : Option ℕ) (m : ℕ) → relinked n earlier later m None ≡ None
-relinked_none n earlier later m = by (n == m) (is_the earlier m) (is_the later m)
-  where
-    by : (a b d : Bool)
-        → cond d (option_map (with_earlier earlier) (cond b (option_map (with_later later) (cond a None None)) (cond a None None)))
-        (cond b (option_map (with_later later) (cond a None None)) (cond a None None)) ≡ None
-    by true true true = refl
-    by true true false = refl
-    by true false true = refl
-    by true false false = refl
-    by false true true = refl
-    by false true false = refl
-    by false false true = refl
-    by false false false = refl
-
 -- the request behind one is another than what is not there
 pub later_other : (before : Option ℕ) (rs : List ℕ) (n : ℕ) (link : RequestLinks) (m : ℕ)
     → link_in before rs n ≡ Some link → list_any (λ r. m == r) rs ≡ false

@@ -3,7 +3,7 @@ use Rattle.std.proofs.Common.{arith, ◌≡◌, ◌≤◌, ◌-◌, ℕ, Bool, t
 use Rattle.std.specs.Prelude.{is_some, option_map, option_copied, nat_lt, ◌==◌}
 use Rattle.std.proofs.lemmas.Bool.{eqb-true, le-ltb}
 use Rattle.fwd_session.specs.ServerAcks.{ServerAck}
-use Rattle.fwd_book.specs.ChunkRefs.{ChunkRef, note_at, found_in, used_less, put_in}
+use Rattle.fwd_book.specs.ChunkRefs.{ChunkRef, note_at, used_less, put_in}
 
 pub none-few : 2 ≤ 0 → ⊥
 none-few few = omega (arith, few)
@@ -29,21 +29,6 @@ put_nowhere e notes n none = by (e.number == n) refl
     by : (a : Bool) → (e.number == n) ≡ a
         → note_at n notes ≡ cond a (put_in e (note_at e.number notes)) (note_at n notes)
     by true same = ap (λ k. note_at k notes) (sym (eqb-true e.number n same)) ∙ none ∙ ap (put_in e) (sym none)
-    by false same = refl
-
--- what is put where something was
-pub put_again : (e : ServerAck) (notes : List (ℕ × ChunkRef)) (n : ℕ)
-    → is_some (found_in (note_at e.number notes)) ≡ true
-    → note_at n notes ≡ cond (e.number == n) (put_in e (note_at e.number notes)) (note_at n notes)
-put_again e notes n some = by (e.number == n) refl
-  where
-    stays : (o : Option ChunkRef) → is_some (found_in o) ≡ true → put_in e o ≡ o
-    stays None is = refl
-    stays (Some note) is = ap (λ k. Some (record note { found = cond k note.found (Some e) })) is
-
-    by : (a : Bool) → (e.number == n) ≡ a
-        → note_at n notes ≡ cond a (put_in e (note_at e.number notes)) (note_at n notes)
-    by true same = ap (λ k. note_at k notes) (sym (eqb-true e.number n same)) ∙ sym (stays (note_at e.number notes) some)
     by false same = refl
 
 pub copied_some : {X Y : Type 0} (f : X → Y) (o : Option (Bor X))

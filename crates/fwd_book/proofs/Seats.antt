@@ -42,17 +42,6 @@ written old key x f there k =
     by true is = ap (option_map f) (sym there ∙ ap (get old) (eqb-true key k is))
     by false is = refl
 
--- where nothing is, nothing is written
-pub unwritten : {X : Type 0} (old : Slab X) (key : ℕ) (f : X → X) → get old key ≡ None
-    → (k : ℕ) → get old k ≡ cond (key == k) (option_map f (get old k)) (get old k)
-unwritten old key f none k = by (key == k) refl
-  where
-    by : (a : Bool) → (key == k) ≡ a → get old k ≡ cond a (option_map f (get old k)) (get old k)
-    by true is =
-        let here : get old k ≡ None = ap (get old) (sym (eqb-true key k is)) ∙ none in
-        here ∙ sym (ap (option_map f) here)
-    by false is = refl
-
 -- a request stays where its link is written
 pub later-request : (later : Option ℕ) (k : Option LinkedRequest) → request_of (option_map (leads_to later) k) ≡ request_of k
 later-request later None = refl

@@ -11,9 +11,6 @@ use Rattle.fwd_book.specs.ChunkRefs.{ChunkRef}
 use Rattle.fwd_book.proofs.Facts.{none_some, or-false, or-true}
 use Rattle.fwd_book.proofs.Following.{any-last}
 
-numbers_of : List Span → List ℕ
-numbers_of spans = map (λ s. s.number) spans
-
 smaller : (m n : ℕ) → m < n → (m == n) ≡ false
 smaller m n less = by (m == n) refl
   where

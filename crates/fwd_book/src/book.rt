@@ -89,8 +89,8 @@ use std::marker::Model;
 use std::sync::Arc;
 
 /// The requests of one output that are owed an answer. What was acknowledged is kept once for each
-/// number, and as long as a request needs it. No call looks at more than it is asked about, but
-/// that room is made anew once the places are all taken.
+/// number, and as long as a request needs it. A request is found at once by its slot. Else its
+/// connection's are gone through, unless its number is above theirs.
 pub struct Book {
     run: [u8; 6],
     output: u16,

@@ -177,7 +177,7 @@ fn leave_ends(ends: &mut IndexMap<u64, Ends>, conn: u64, link: RequestLinks)
     }
 }
 
-/// Whether a request's entries are all acknowledged, by these numbers if there are some.
+/// Whether these numbers, where they are given, have all entries of a request as acknowledged.
 fn is_asked(request: &EnteredRequest, chunk_refs: Option<&ChunkRefs>) -> bool
     ensures { result ≡ is_asked (option_copied chunk_refs.entry) request.now }
 {
@@ -231,8 +231,7 @@ impl ConnectionIndex {
     pub(crate) fn at(&self, slot: usize) -> Option<&EnteredRequest>
         ensures { option_copied result ≡ held_at self.now.kept slot }
     {
-        let kept = self.kept.get(slot)?;
-        Some(&kept.request)
+        Some(&self.kept.get(slot)?.request)
     }
 
     /// Whether the request in a slot is the one of the origin.
@@ -278,9 +277,9 @@ impl ConnectionIndex {
         None
     }
 
-    /// The origins of a connection's requests, in their order: of all, or of those alone whose
-    /// entries are all acknowledged, by these numbers. The only error is out of memory, and where
-    /// there are none it takes no memory.
+    /// The origins of a connection's requests, in their order: of all, or where numbers are given
+    /// of those whose entries are all acknowledged by them. The only error is out of memory, and
+    /// where there are none it takes no memory.
     pub(crate) fn origins(
         &self,
         alloc: Global,

@@ -91,8 +91,8 @@ impl Requests {
     }
 
     /// The origins of a connection's requests, in the order in which they were entered: of all, or
-    /// of those alone whose entries are all acknowledged, by these numbers. The only error is out
-    /// of memory, and where there are none it takes no memory.
+    /// where numbers are given of those whose entries are all acknowledged by them. The only error
+    /// is out of memory, and where there are none it takes no memory.
     pub(crate) fn origins(
         &self,
         alloc: Global,

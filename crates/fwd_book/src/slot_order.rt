@@ -1,5 +1,6 @@
 //! The order in which requests were entered, for contracts alone: it takes no memory when it runs.
-//! Of two connections no call of a book tells whose request was first, so no code keeps it.
+//! What is kept says which slots stand in it, and how those of one connection do (`AreKept`). Of
+//! two connections no call tells whose request was first, so no code keeps that.
 
 ghost use Rattle.std.specs.Prelude.{◌≡◌, ◌==◌, ℕ, List, [], ◌∷◌, ◌++◌, filter, not};
 ghost use base.Fml.{ftrue};
