@@ -181,6 +181,7 @@ impl<A: Tally, S: Tally> Locked<A, S> {
     pub fn counts(&self) -> Counts
         ensures counts { result ≡ live_counts self.now.output.buffer }
         ensures sum { result.accepted ≡ result.settled + result.held }
+        ensures sound { IsSound self.now.output.buffer }
     {
         self.state.is_sound(); // for the proof
         self.state.counts()

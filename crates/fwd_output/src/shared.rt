@@ -15,7 +15,7 @@ ghost use Rattle.std.specs.Prelude.{
 };
 ghost use Rattle.std.specs.Arc.{arc_value};
 ghost use Rattle.std.specs.List.Sorted.{IsPermutation};
-ghost use Rattle.fwd_chunks.specs.Live.{LiveBuffer};
+ghost use Rattle.fwd_chunks.specs.Live.{LiveBuffer, live_counts};
 ghost use Rattle.fwd_chunks.specs.Soundness.{IsSound};
 ghost use Rattle.fwd_chunks.specs.TagCounts.{AddsUp, IsSnapshot, live_report};
 ghost use Rattle.fwd_session.specs.ServerAcks.{IsServerAck};
@@ -50,9 +50,11 @@ impl<A: Tally, S: Tally> SharedOutput<A, S> {
         }
     }
 
-    /// The entries accepted, settled and held, with the bytes held and the chunks that hold them.
+    /// The entries accepted, settled and held, with the bytes held and the chunks that hold them:
+    /// those of what lies under the lock at one moment.
     pub fn counts<R: Wait>(&self, rt: &R) -> Counts
-        ensures { result.accepted ≡ result.settled + result.held }
+        ensures buffer { (b : LiveBuffer) × IsSound b × (result ≡ live_counts b) }
+        ensures sum { result.accepted ≡ result.settled + result.held }
     {
         self.lock.lock(rt).counts()
     }
