@@ -12,3 +12,4 @@ pub mod Collecting
 pub mod Owing
 pub mod Standing
 pub mod Queueing
+pub mod Waiting

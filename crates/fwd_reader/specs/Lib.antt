@@ -5,8 +5,8 @@
 -- Tellings, who is told of receipts; Collections, of which receipts; Rounds, at which outputs they
 -- are collected, and how often; Promises, what is promised of each; Idling, which source gives its
 -- place to a new one; Lateness, which connection had its time; Ages, how old something is;
--- Entering, who may enter an output; Owing, what outputs owe. OpenConnections, Queues, Turning and
--- Routers only describe the code.
+-- Entering, who may enter an output; Owing, what outputs owe. OpenConnections, Queues, Turning,
+-- Routers and Waiting only describe the code.
 pub mod Ends
 pub mod Admissions
 pub mod Stores
@@ -25,3 +25,4 @@ pub mod Settlements
 pub mod Rounds
 pub mod Owing
 pub mod Queues
+pub mod Waiting

@@ -9,8 +9,6 @@ ghost use Rattle.std.specs.Prelude.{
   ◌<◌,
   ◌++◌,
   [],
-  ◌∷◌,
-  ℕ,
   Some,
   true,
   false,
@@ -28,16 +26,17 @@ ghost use Rattle.fwd_reader.specs.Stores.{
   IsSettled,
   Looks,
   last_chunk,
-  waiting_in,
-  waits_with,
   none_kept,
 };
 
+mod waiting;
+
+use self::waiting::WaitingTickets;
 use crate::ticket_list::{TicketList, abandon_blocks};
 use fwd_chunks::Span;
 use fwd_output::{Plain, SharedOutput, Ticket};
-use std::alloc::{AllocError, AllocFailed, Global};
-use std::collections::{BTreeMap, VecDeque};
+use std::alloc::{AllocError, Global};
+use std::collections::VecDeque;
 use std::marker::Model;
 use std::mem;
 use std::sync::Wait;
@@ -49,8 +48,8 @@ use std::sync::Wait;
 /// They must be spent: by receipts, or by `close`.
 pub struct TicketStore {
     alloc: Global,
-    /// By the number of the chunk that they wait for.
-    waiting: BTreeMap<u64, TicketList>,
+    /// They wait for chunks.
+    waiting: WaitingTickets,
     /// They are to be handed in.
     due: TicketList,
     /// They were handed in and came back, in blocks: another chunk of their request is not settled
@@ -71,7 +70,7 @@ impl Model for TicketStore {
     ghost Value = { Stored };
 
     ghost view = { λ s. record {
-      lists = s.waiting.entries;
+      lists = s.waiting;
       due = s.due;
       late = flat_map (λ block. block.items) s.late.items;
       late_due = s.are_late_due;
@@ -89,7 +88,7 @@ impl TicketStore {
     {
         TicketStore {
             alloc,
-            waiting: BTreeMap::new(alloc),
+            waiting: WaitingTickets::new(alloc),
             due: TicketList::new(alloc),
             late: VecDeque::new(alloc),
             are_late_due: false,
@@ -117,7 +116,7 @@ impl TicketStore {
         ensures back { IfErr result (λ t. t ≡ ticket) }
         ensures same { OnErr result (IsSame self.old self.new) }
     {
-        keep_at(self.alloc, &mut self.waiting, chunk, ticket)
+        self.waiting.keep(self.alloc, chunk, ticket)
     }
 
     /// A chunk is settled: the tickets that wait for it are to be handed in, and those that came
@@ -127,7 +126,7 @@ impl TicketStore {
         ensures { IsSettled self.old chunk self.new }
     {
         self.are_late_due = self.are_late_due || !self.late.is_empty();
-        if move_list(&mut self.waiting, chunk, &mut self.due).is_err() {
+        if self.waiting.move_to(chunk, &mut self.due).is_err() {
             self.are_all_due = true;
         }
     }
@@ -198,8 +197,8 @@ impl TicketStore {
         ensures found { FindsLeast self.old self.new }
         ensures late_due { self.new.late_due ≡ self.old.late_due }
     {
-        match self.waiting.pop_first() {
-            Some((_, list)) => mem::replace(&mut self.due, list).destroy_empty(),
+        match self.waiting.pop_list() {
+            Some(list) => mem::replace(&mut self.due, list).destroy_empty(),
             None => self.are_all_due = false,
         }
     }
@@ -237,7 +236,7 @@ impl TicketStore {
             are_late_due: _,
             are_all_due: _,
         } = self;
-        while let Some((_, list)) = waiting.pop_first() {
+        while let Some(list) = waiting.pop_list() {
             list.abandon(rt, output);
         }
         waiting.destroy_empty();
@@ -254,71 +253,4 @@ fn last_number(spans: &[Span]) -> Option<u64>
         None => None,
         Some(span) => Some(span.number),
     }
-}
-
-/// A ticket waits for a chunk, behind all that do. When out of memory it comes back.
-fn keep_at(
-    alloc: Global,
-    waiting: &mut BTreeMap<u64, TicketList>,
-    chunk: u64,
-    ticket: Ticket,
-) -> Result<(), Ticket>
-    ensures added { OnOk result ((k : ℕ) → waiting_in waiting.new.entries k
-        ≡ waits_with (waiting_in waiting.old.entries) chunk
-        (waiting_in waiting.old.entries chunk ++ ticket ∷ []) k) }
-    ensures back { IfErr result (λ t. t ≡ ticket) }
-    ensures same { OnErr result ((k : ℕ) →
-        waiting_in waiting.new.entries k ≡ waiting_in waiting.old.entries k) }
-{
-    if !has_list(alloc, waiting, chunk) {
-        return Err(ticket);
-    }
-    match waiting.get_mut(&chunk) {
-        None => Err(ticket),
-        Some(list) => list.push(ticket),
-    }
-}
-
-/// Sees to it that there is a list for a chunk, and says whether it could. It cannot when out of
-/// memory.
-fn has_list(alloc: Global, waiting: &mut BTreeMap<u64, TicketList>, chunk: u64) -> bool
-    ensures { (k : ℕ) → waiting_in waiting.new.entries k ≡ waiting_in waiting.old.entries k }
-{
-    if waiting.contains_key(&chunk) {
-        return true;
-    }
-    match waiting.insert(chunk, TicketList::new(alloc)) {
-        Ok(None) => true,
-        Ok(Some(list)) => {
-            list.destroy_empty();
-            true
-        }
-        Err(AllocFailed { value: (_, list) }) => {
-            list.destroy_empty();
-            false
-        }
-    }
-}
-
-/// Takes who waits for a chunk behind these that are due. The only error is out of memory, and then
-/// nothing has changed.
-fn move_list(
-    waiting: &mut BTreeMap<u64, TicketList>,
-    chunk: u64,
-    due: &mut TicketList,
-) -> Result<(), AllocError>
-    ensures due { OnOk result (due.new ≡ due.old ++ waiting_in waiting.old.entries chunk) }
-    ensures gone { OnOk result ((k : ℕ) → waiting_in waiting.new.entries k
-        ≡ waits_with (waiting_in waiting.old.entries) chunk [] k) }
-    ensures same { OnErr result ((due.new ≡ due.old) × ((k : ℕ) →
-        waiting_in waiting.new.entries k ≡ waiting_in waiting.old.entries k)) }
-{
-    let Some(list) = waiting.get_mut(&chunk) else {
-        return Ok(());
-    };
-    due.append(list)?;
-    if let Some(list) = waiting.remove(&chunk) {
-        list.destroy_empty();
-    }
-    Ok(())
 }
