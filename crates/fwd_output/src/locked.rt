@@ -76,6 +76,8 @@ ghost use Rattle.fwd_output.specs.Turns.{
   locked_tells,
 };
 
+mod looking;
+
 use crate::chunk_starts::ChunkStarts;
 use crate::collecting::{hand_out, receipts_of, shows};
 use crate::lost_at::LostAt;

@@ -1,6 +1,7 @@
 //! What a worker sees of its output before it takes a chunk, and the chunk that it takes.
 
 ghost use Rattle.std.specs.Prelude.{◌≡◌, nat_lt, if◌then◌else◌};
+ghost use Rattle.fwd_output.specs.Looks.{may_take};
 ghost use Rattle.fwd_output.specs.Elsewhere.{
   away_from,
   has_server,
@@ -11,6 +12,18 @@ ghost use Rattle.fwd_output.specs.Elsewhere.{
 
 use crate::server_set::ServerSet;
 use fwd_chunks::Carried;
+use std::alloc::AllocError;
+
+/// What a worker takes a free chunk for.
+#[derive(Clone, Copy)]
+pub enum ChunkUse {
+    /// To begin a session with it.
+    Begin,
+    /// For its session, which has no other.
+    Follow,
+    /// For its session with this server, beside those that it has.
+    Join(u16),
+}
 
 /// What a worker sees of its output before it takes a chunk.
 #[derive(Clone, Copy)]
@@ -70,6 +83,20 @@ impl ServerView {
         if server == own { None } else { Some(server) }
     }
 
+    /// Whether the worker takes a chunk for this use, if one is free: what another worker claims is
+    /// left to it. A session is begun only where there is a server to try, and a chunk is added to
+    /// others only where their server is the one to try, and known to work.
+    pub fn may_take(self, chunk_use: ChunkUse) -> bool
+        ensures { result ≡ may_take self chunk_use }
+    {
+        !self.is_claimed
+            && match chunk_use {
+                ChunkUse::Begin => self.server.is_some(),
+                ChunkUse::Follow => true,
+                ChunkUse::Join(own) => self.server == Some(own) && !self.is_doubted,
+            }
+    }
+
     /// Whether the worker's own server is the one that it is to try, and is known to work.
     pub fn trusts(self, own: u16) -> bool {
         self.server == Some(own) && !self.is_doubted
@@ -79,6 +106,13 @@ impl ServerView {
     pub fn doubts(self, own: u16) -> bool {
         self.server == Some(own) && self.is_doubted
     }
+}
+
+/// What a worker sees of its output, and the chunk that it took by that. It must be spent.
+pub struct Look {
+    pub view: ServerView,
+    /// The chunk, if the worker took one. It is an error that memory was refused for one.
+    pub picked: Result<Option<PickedChunk>, AllocError>,
 }
 
 /// A chunk that a worker took. It must be spent.

@@ -5,6 +5,9 @@ ghost use Rattle.std.specs.Prelude.{
   ◌≤◌,
   ◌+◌,
   ◌++◌,
+  Ok,
+  None,
+  false,
   length,
   map,
   All,
@@ -20,11 +23,12 @@ ghost use Rattle.fwd_chunks.specs.Soundness.{IsSound};
 ghost use Rattle.fwd_chunks.specs.TagCounts.{AddsUp, IsSnapshot, live_report};
 ghost use Rattle.fwd_session.specs.ServerAcks.{IsServerAck};
 ghost use Rattle.fwd_book.specs.History.{BookSetting};
+ghost use Rattle.fwd_output.specs.Looks.{may_take};
 ghost use Rattle.fwd_output.specs.Seats.{parts_of, counts_of};
 ghost use Rattle.fwd_output.specs.Tickets.{AreGiven, IsRight, ticket_of};
 
 use crate::locked::{Closing, Locked};
-use crate::server_view::{PickedChunk, ServerView};
+use crate::server_view::{ChunkUse, Look, PickedChunk, ServerView};
 use crate::tally::{Ledgered, Seat, Tally};
 use crate::ticket::Ticket;
 use fwd_book::{AdmitRefusal, Receipt};
@@ -172,6 +176,26 @@ impl<A: Tally, S: Tally> SharedOutput<A, S> {
         ensures { seat.new ≡ seat.old }
     {
         self.lock.lock(rt).pick(alloc, seat, worker, now)
+    }
+
+    /// What a worker sees at a moment (milliseconds); and where it may take a chunk for this use,
+    /// the open chunks are closed that are due, and it is given the free chunk of the least number,
+    /// if there is one. The only error is out of memory.
+    pub fn look_for<R: Wait>(
+        &self,
+        rt: &R,
+        alloc: Global,
+        seat: &mut S::Seat,
+        worker: u16,
+        chunk_use: ChunkUse,
+        now: u64,
+    ) -> Look
+        ensures leaves { may_take result.view chunk_use ≡ false → result.picked ≡ Ok None }
+        ensures same { seat.new ≡ seat.old }
+    {
+        self.lock
+            .lock(rt)
+            .look_for(alloc, seat, worker, chunk_use, now)
     }
 
     /// What a worker sees at a moment (milliseconds) before it takes a chunk.

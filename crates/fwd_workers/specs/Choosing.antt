@@ -2,18 +2,17 @@
 -- free.
 use Rattle.std.specs.Prelude.{
   ℕ,
-  ◌==◌,
   ◌&&◌,
   Bool,
   true,
   false,
   not,
   Option,
-  Some,
   None,
   nat_lt,
   if◌then◌else◌,
 }
+use Rattle.fwd_output.specs.Looks.{is_server}
 use Rattle.fwd_output.specs.declared.server_view.PickedChunk.{PickedChunk}
 use Rattle.fwd_output.specs.declared.server_view.ServerView.{ServerView}
 use Rattle.fwd_workers.specs.declared.upstream.WorkerState.{WorkerState}
@@ -23,17 +22,6 @@ use Rattle.fwd_workers.specs.declared.upstream.WorkerState.TheVariants as state
 -- free
 abbrev pub open_server : ServerView → Option ℕ
 open_server view = if view.is_claimed then None else view.server
-
--- a server is this one
-abbrev pub is_server : Option ℕ → (own : ℕ) → Bool
-is_server None own = false
-is_server (Some server) own = server == own
-
--- a session gets a chunk beside those that it has: what is free is claimed by no other worker, and
--- its own server is the one to try, and known to work
-abbrev pub may_join : ServerView → (own : ℕ) → Bool
-may_join view own =
-    not view.is_claimed && (is_server view.server own && not view.is_doubted)
 
 -- a chunk that was not lost is looked for first: a session's own server is the one to try, and not
 -- known to work

@@ -1,8 +1,8 @@
-//! What a worker decides by what it sees of its output: with which server it begins, whether a
-//! session gets a chunk more, and which of two free chunks it keeps.
+//! What a worker decides by what it sees of its output: with which server it begins, whether its
+//! session looks for a chunk that was not lost, and which of two free chunks it keeps.
 
 ghost use Rattle.std.specs.Prelude.{◌≡◌, if◌then◌else◌};
-ghost use Rattle.fwd_workers.specs.Choosing.{is_better, may_join, open_server, wants_fresh};
+ghost use Rattle.fwd_workers.specs.Choosing.{is_better, open_server, wants_fresh};
 
 use fwd_output::{PickedChunk, ServerView};
 
@@ -11,14 +11,6 @@ pub(crate) fn open_server(view: ServerView) -> Option<u16>
     ensures { result ≡ open_server view }
 {
     if view.is_claimed { None } else { view.server }
-}
-
-/// Whether a session with this server gets a chunk beside those that it has: the server is the one
-/// to try, and known to work, and free chunks are left to nobody else.
-pub(crate) fn may_join(view: ServerView, own: u16) -> bool
-    ensures { result ≡ may_join view own }
-{
-    !view.is_claimed && view.server == Some(own) && !view.is_doubted
 }
 
 /// Whether a session with this server looks for a chunk that was not lost: the server is the one to

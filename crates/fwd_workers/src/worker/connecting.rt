@@ -22,7 +22,7 @@ ghost use Rattle.fwd_workers.specs.Working.{Begins, HasBegun, HasSought, setup_b
 use super::Worker;
 use crate::choosing::open_server;
 use crate::ending::NoSession;
-use crate::next_chunk::unused;
+use crate::next_chunk::{Found, unused};
 use crate::turn_context::{Outside, TurnContext};
 use crate::upstream::{IdleUpstream, WorkerState};
 use crate::upstream_end::{give_back, give_back_now};
@@ -30,7 +30,7 @@ use crate::upstream_turn::free_upstream;
 use fwd_base::Bytes;
 use fwd_environment::{Clock, Hub};
 use fwd_handshake::draw_salt;
-use fwd_output::{ServerView, Tally};
+use fwd_output::{ChunkUse, ServerView, Tally};
 use fwd_session::{OwnedSalt, Session};
 use std::alloc::AllocError;
 use std::sync::{Arc, Wait};
@@ -50,16 +50,14 @@ impl Worker {
         ensures begun { HasBegun result (setup_by (arc_value self.old.login)
             (hex_drawn 0 4 self.old.rng) self.old.acks context.entry.now.now) }
     {
-        let server_view = context
-            .out
-            .server_view(context.rt, self.number, context.now);
-        let Some(server) = open_server(server_view) else {
+        let Some(Found { view, picked }) = self.look_for(context, seat, ChunkUse::Begin) else {
             return WorkerState::Idle;
         };
-        let Some(picked) = self.next_chunk(context, seat, server_view.is_doubted) else {
-            return WorkerState::Idle;
+        let picked = self.fresh_for(context, seat, picked, view.is_doubted);
+        let Some(server) = open_server(view) else {
+            unreachable!()
         };
-        let server = server_view.server_with(&picked, server);
+        let server = view.server_with(&picked, server);
         let chunk = self.note(picked);
         match self.meet(context, outside.hub, server) {
             Ok(free) => {

@@ -9,16 +9,15 @@ ghost use Rattle.fwd_workers.specs.Endings.{news_of};
 ghost use Rattle.fwd_workers.specs.Working.{HasAdded, HasGoneOn, HasLost, HasSettled, next_entries};
 
 use super::Worker;
-use crate::choosing::may_join;
 use crate::ending::EndReason;
-use crate::next_chunk::unused;
+use crate::next_chunk::{Found, unused};
 use crate::turn_context::TurnContext;
 use crate::upstream::{IdleUpstream, Upstream, UpstreamWithRoom, WorkerState};
 use crate::upstream_end::{give_back, lose_upstream, settle_upstream};
 use crate::upstream_turn::{serve, to_end};
 use fwd_chunks::Carried;
 use fwd_environment::Link;
-use fwd_output::Tally;
+use fwd_output::{ChunkUse, Tally};
 use std::sync::Wait;
 
 impl Worker {
@@ -111,21 +110,16 @@ impl Worker {
         if self.doubts.alone || !upstream.may_add() {
             return WorkerState::Loaded(upstream);
         }
-        let server_view = context
-            .out
-            .server_view(context.rt, self.number, context.now);
-        if !may_join(server_view, upstream.session.server()) {
+        let joins = ChunkUse::Join(upstream.session.server());
+        let Some(Found { view: _, picked }) = self.look_for(context, seat, joins) else {
+            return WorkerState::Loaded(upstream);
+        };
+        if picked.was_lost() {
+            give_back(context, seat, unused(self.alloc, picked));
+            self.doubts.alone = true;
             return WorkerState::Loaded(upstream);
         }
-        match self.next_chunk(context, seat, false) {
-            None => WorkerState::Loaded(upstream),
-            Some(picked) if picked.was_lost() => {
-                give_back(context, seat, unused(self.alloc, picked));
-                self.doubts.alone = true;
-                WorkerState::Loaded(upstream)
-            }
-            Some(picked) => WorkerState::Added(UpstreamWithRoom { upstream }, self.note(picked)),
-        }
+        WorkerState::Added(UpstreamWithRoom { upstream }, self.note(picked))
     }
 
     /// A chunk was settled: the worker goes on with those that the session still has. Without any

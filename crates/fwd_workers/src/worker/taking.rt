@@ -4,6 +4,8 @@ ghost use Rattle.std.specs.Prelude.{◌≡◌, ◌⊎◌, Some, None, true, fals
 ghost use Rattle.std.specs.Arc.{arc_value};
 ghost use Rattle.fwd_handshake.specs.Draws.{hex_drawn};
 ghost use Rattle.fwd_output.specs.Elsewhere.{away_from, has_server};
+ghost use Rattle.fwd_output.specs.Looks.{may_take};
+ghost use Rattle.fwd_workers.specs.Choosing.{is_better};
 ghost use Rattle.fwd_workers.specs.Endings.{news_of, went_of};
 ghost use Rattle.fwd_workers.specs.Working.{
   HasGone,
@@ -18,20 +20,17 @@ use super::Worker;
 use crate::choosing::wants_fresh;
 use crate::denial::denial_in;
 use crate::ending::EndReason;
-use crate::next_chunk::{fresh, pick, unused};
+use crate::next_chunk::{AHEAD, Found, fresh, fresh_for, look_for, pick, unused};
 use crate::turn_context::{Outside, TurnContext};
 use crate::upstream::{IdleUpstream, UpstreamWithRoom, WorkerState};
 use crate::upstream_end::{end_free, give_back};
 use crate::upstream_turn::{allow_close, ended, serve_free, to_end};
 use fwd_chunks::{Carried, FlushKind};
 use fwd_environment::{Clock, Hub, Link, LossReason, WorkerEvent};
-use fwd_output::{Leaving, PickedChunk, Tally};
+use fwd_output::{ChunkUse, Leaving, PickedChunk, Tally};
 use fwd_session::LoadFailed;
 use std::mem;
 use std::sync::Wait;
-
-/// How many chunks that were lost a worker passes by at the most, in search of one that was not.
-const AHEAD: u16 = 256;
 
 impl Worker {
     /// The next chunk, if there is one; where a server is to be tried that is not known to work,
@@ -51,6 +50,41 @@ impl Worker {
             fresh(context, self.alloc, seat, self.number, AHEAD)
         } else {
             pick(context, self.alloc, seat, self.number)
+        }
+    }
+
+    /// The next chunk, if the worker may take one for this use, by what it sees of its output, and
+    /// one is free. Here, too, chunks are closed only now that are due. Looking, closing and taking
+    /// are one turn under the output's lock.
+    pub(super) fn look_for<A: Tally, S: Tally, R: Wait>(
+        &self,
+        context: &TurnContext<'_, A, S, R>,
+        seat: &mut S::Seat,
+        chunk_use: ChunkUse,
+    ) -> Option<Found>
+        ensures may { IfSome result (λ found. may_take found.view chunk_use ≡ true) }
+        ensures same { seat.new ≡ seat.old }
+    {
+        look_for(context, self.alloc, seat, self.number, chunk_use)
+    }
+
+    /// The chunk that was taken; where a server is to be tried that is not known to work, in place
+    /// of one that was lost before one that was not, if there is one.
+    pub(super) fn fresh_for<A: Tally, S: Tally, R: Wait>(
+        &self,
+        context: &TurnContext<'_, A, S, R>,
+        seat: &mut S::Seat,
+        picked: PickedChunk,
+        is_doubted: bool,
+    ) -> PickedChunk
+        ensures either { (result ≡ picked)
+            ⊎ ((is_doubted ≡ true) × (is_better picked result ≡ true)) }
+        ensures same { seat.new ≡ seat.old }
+    {
+        if is_doubted {
+            fresh_for(context, self.alloc, seat, self.number, picked)
+        } else {
+            picked
         }
     }
 
@@ -212,17 +246,12 @@ impl Worker {
         if free.upstream.ending.is_some() || !free.upstream.session.is_ready() {
             return self.stand(context, seat, free);
         }
-        let server_view = context
-            .out
-            .server_view(context.rt, self.number, context.now);
-        if server_view.is_claimed {
-            return WorkerState::Standing(free);
-        }
-        let own = free.upstream.session.server();
-        let Some(picked) = self.next_chunk(context, seat, wants_fresh(server_view, own)) else {
+        let Some(Found { view, picked }) = self.look_for(context, seat, ChunkUse::Follow) else {
             return WorkerState::Standing(free);
         };
-        let to = server_view.way_of(&picked, own);
+        let own = free.upstream.session.server();
+        let picked = self.fresh_for(context, seat, picked, wants_fresh(view, own));
+        let to = view.way_of(&picked, own);
         let away = picked.away_from(own);
         let chunk = self.note(picked);
         let Some(other) = self.go_over(context, seat, outside, to) else {

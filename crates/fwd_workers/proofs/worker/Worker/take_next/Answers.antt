@@ -76,14 +76,3 @@ returns-in_default-go_over-clause-taken g c none =
     c.args.self.now.acks c.args.context.now.now))
     c.stay.result _ _ c.stay.ensures.stays on
     (on.0, sym c.is_ready.ensures ∙ c.if-not-is_ready.false, inl on.1)
-
-pub returns-then-server_view-clause-taken : goal.returns-then-server_view-clause-taken
-returns-then-server_view-clause-taken g c none =
-    goes-on c.args.free.upstream.session c.serve_free.result.upstream.session
-    c.allow_close-free.result.upstream.session c.args.context.now.now
-    (g.H.Line.Link.calls c.args.free.upstream.link)
-    (g.H.Line.Link.calls c.serve_free.result.upstream.link)
-    c.serve_free.result.upstream.ending c.allow_close-free.result.upstream.ending
-    (λ why. idle_ending why (is_done c.serve_free.result.upstream.session.handshake))
-    (c.serve_free.ensures.turn none) c.allow_close-free.ensures.session c.allow_close-free.ensures.ending
-    (sym c.is_some.ensures ∙ c.if-is_some.false)
