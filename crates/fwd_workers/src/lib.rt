@@ -8,6 +8,7 @@ mod ending;
 mod gating;
 mod laws;
 mod next_chunk;
+mod own_session;
 mod refused;
 mod serve;
 mod turn_context;

@@ -29,6 +29,7 @@ ghost use Rattle.fwd_workers.specs.Served.{
   takes_more,
 };
 
+use crate::own_session::OwnSession;
 use fwd_environment::{Link, LinkFault, Read};
 use fwd_session::{Session, SessionFault, SessionHeard};
 use std::alloc::Global;
@@ -273,7 +274,7 @@ pub(crate) fn serve_in_room<L: Link, R: Wait>(
     rt: &R,
     alloc: Global,
     link: &mut L,
-    session: &mut Session,
+    session: &mut OwnSession,
     room: &mut Vec<u8>,
 ) -> Served
     requires { session.old.down ≡ false }
@@ -285,8 +286,8 @@ pub(crate) fn serve_in_room<L: Link, R: Wait>(
     ensures room { live_room session.new ≡ live_room session.old }
 {
     if room.is_empty() {
-        return serve_gathered(rt, alloc, link, session, &mut [0; SMALL_ROOM]);
+        return serve_gathered(rt, alloc, link, &mut session.session, &mut [0; SMALL_ROOM]);
     }
     let most = room.len().min(ROOM);
-    serve_gathered(rt, alloc, link, session, &mut room[..most])
+    serve_gathered(rt, alloc, link, &mut session.session, &mut room[..most])
 }

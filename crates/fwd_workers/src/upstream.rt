@@ -5,15 +5,15 @@ ghost use Rattle.fwd_session.specs.Live.{live_is_ready, live_room};
 ghost use Rattle.fwd_workers.specs.Served.{IsFree, IsOfLink, may_add, seen_in};
 
 use crate::ending::EndReason;
+use crate::own_session::OwnSession;
 use fwd_chunks::Carried;
 use fwd_environment::Link;
-use fwd_session::Session;
 
 /// A link, and the session that it carries. The session has lived over just this link, from its
 /// beginning on: what it was told and heard is what the link took and gave.
 pub(crate) struct Upstream<L: Link> {
     pub(crate) link: L,
-    pub(crate) session: Session,
+    pub(crate) session: OwnSession,
     /// Why the session is to end, once it is to.
     pub(crate) ending: Option<EndReason>,
     ghost of_link: { ∥ IsOfLink session (seen_in (L.calls link)) (is_some ending) ∥₁ },

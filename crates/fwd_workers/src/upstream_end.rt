@@ -57,7 +57,7 @@ fn leave_upstream<L: Link>(upstream: Upstream<L>, taken: Option<Carried>) -> Lea
         session,
         ending,
     } = upstream;
-    leave(session, taken, kind_in(ending))
+    leave(session.into_session(), taken, kind_in(ending))
 }
 
 /// What a worker leaves goes back to its output.

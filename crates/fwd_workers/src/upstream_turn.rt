@@ -8,10 +8,10 @@ ghost use Rattle.fwd_workers.specs.Served.{IsFree};
 ghost use Rattle.fwd_workers.specs.Working.{IsTended};
 
 use crate::ending::{EndReason, loss_in};
+use crate::own_session::OwnSession;
 use crate::serve::serve_in_room;
 use crate::upstream::{IdleUpstream, Upstream};
 use fwd_environment::{Link, LossReason};
-use fwd_session::Session;
 use std::alloc::Global;
 use std::sync::Wait;
 
@@ -126,7 +126,7 @@ pub(crate) fn to_end<L: Link>(free: IdleUpstream<L>, why: EndReason) -> IdleUpst
 }
 
 /// A session that begins over a link of which no call was made.
-pub(crate) fn free_upstream<L: Link>(link: L, session: Session) -> IdleUpstream<L>
+pub(crate) fn free_upstream<L: Link>(link: L, session: OwnSession) -> IdleUpstream<L>
     requires begun { (setup : Setup) × (session ≡ session_begins setup) × (0 < setup.window) }
     requires fresh { L.calls link ≡ [] }
     ensures session { result.upstream.session ≡ session }

@@ -23,6 +23,7 @@ use super::Worker;
 use crate::choosing::open_server;
 use crate::ending::NoSession;
 use crate::next_chunk::{Found, unused};
+use crate::own_session::OwnSession;
 use crate::turn_context::{Outside, TurnContext};
 use crate::upstream::{IdleUpstream, WorkerState};
 use crate::upstream_end::{give_back, give_back_now};
@@ -243,7 +244,7 @@ impl Worker {
     }
 
     /// A session with a server begins at a moment (milliseconds). The only error is out of memory.
-    fn up(&mut self, server: u16, now: u64) -> Result<Session, AllocError>
+    fn up(&mut self, server: u16, now: u64) -> Result<OwnSession, AllocError>
         ensures begun { IfOk result (λ session. session ≡ session_begins (record {
           server = server;
           login = arc_value self.old.login;
@@ -256,7 +257,8 @@ impl Worker {
     {
         let login = Arc::try_clone(&self.login)?;
         let salt = self.draw_salt()?;
-        Ok(Session::up(self.alloc, server, login, salt, self.acks, now)?)
+        let session = Session::up(self.alloc, server, login, salt, self.acks, now)?;
+        OwnSession::new(self.alloc, session)
     }
 
     /// The salt of the next login: 32 hexadecimal digits. The only error is out of memory.
@@ -274,7 +276,7 @@ impl Worker {
 }
 
 /// The session that was to begin on a link: no server is to blame where memory was refused for it.
-fn begun(session: Result<Session, AllocError>) -> Result<Session, NoSession>
+fn begun(session: Result<OwnSession, AllocError>) -> Result<OwnSession, NoSession>
     ensures same { IfOk result (λ s. session ≡ Ok s) }
     ensures had { IsOk session → IsOk result }
     ensures memory { IsErr session → result ≡ Err NoSession.Memory }
