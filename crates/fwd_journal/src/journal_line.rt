@@ -1,5 +1,9 @@
 //! What is said of an event.
 
+ghost use Rattle.std.specs.Prelude.{◌≡◌, ◌↔◌, ◌<◌, true, Some, slice_get};
+ghost use Rattle.fwd_journal.specs.Subjects.{AreSame, AreOthers};
+ghost use Rattle.fwd_journal.specs.declared.journal_line.TheConstants.LineKind.{ALL};
+
 use crate::shown_text::ShownText;
 use fwd_book::AdmitRefusal;
 use fwd_environment::{LinkFault, LossReason, TextFront};
@@ -49,6 +53,22 @@ impl LineKind {
         LineKind::Stopping,
         LineKind::SourceSilent,
     ];
+
+    /// Its place among all.
+    pub fn place(self) -> usize
+        ensures place { slice_get ALL result ≡ Some self }
+        ensures within { result < 14 }
+    {
+        self as usize
+    }
+
+    /// The one at a place.
+    pub fn at(place: usize) -> LineKind
+        requires { place < 14 }
+        ensures { slice_get ALL place ≡ Some result }
+    {
+        LineKind::ALL[place]
+    }
 
     /// The kind of an event.
     pub fn of(event: &JournalEvent) -> LineKind {
@@ -132,9 +152,18 @@ impl Subject {
     }
 
     /// Other lines of a kind.
-    pub fn others(kind: LineKind) -> Subject {
+    pub fn others(kind: LineKind) -> Subject
+        ensures { AreOthers kind result }
+    {
         let (name, output) = ("others", None);
         Subject { kind, name, output }
+    }
+
+    /// Whether both are one subject.
+    pub fn is_same(&self, other: &Subject) -> bool
+        ensures { result ≡ true ↔ AreSame self.now other.now }
+    {
+        self == other
     }
 }
 

@@ -1,6 +1,7 @@
 //! What a run writes of itself: its lines, how many of a kind are written, and how it ended. What
-//! is proved here is how many lines of a subject a second has room for, which bytes of a peer stand
-//! there as they are, and what each end exits with.
+//! is proved here is how many lines of a subject a second has room for, which subject a line counts
+//! for and which is told of what was left out, which bytes of a peer stand there as they are, and
+//! what each end exits with.
 #![tactic(auto)]
 
 mod ending;

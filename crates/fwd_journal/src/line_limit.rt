@@ -1,6 +1,7 @@
 //! How many lines of one subject a second has room for.
 
-ghost use Rattle.std.specs.Prelude.{◌≡◌, ◌≢◌, ◌↔◌, ◌≤◌, ◌+◌, ◌-◌, ◌^◌, ◌⊎◌, true, false, IfSome, IfNone};
+ghost use Rattle.std.specs.Prelude.{◌≡◌, ◌↔◌, ◌==◌, true, not};
+ghost use Rattle.fwd_journal.specs.Limits.{told_in, Counts, Owes, paid};
 
 /// At most so many lines of one subject are told in a second. Seconds are those of the clock, and
 /// not any thousand milliseconds: one number is enough for a subject, and a reader of the lines can
@@ -35,22 +36,14 @@ impl LineLimit {
 
     /// Whether a line was told in a second.
     pub fn is_within(&self, second: i64) -> bool
-        ensures { result ≡ true ↔ (self.now.second ≡ second) × (1 ≤ self.now.told) }
+        ensures { result ≡ not (told_in second self.now == 0) }
     {
         self.second == second && self.told > 0
     }
 
     /// Whether a line is told in a second: the first ten are. One that is not is counted.
     pub fn takes(&mut self, second: i64) -> bool
-        ensures told { result ≡ true → (self.new.second ≡ second)
-            × (1 ≤ self.new.told) × (self.new.told ≤ 10)
-            × (self.new.left_out ≡ self.old.left_out) }
-        ensures first { result ≡ true → second ≢ self.old.second → self.new.told ≡ 1 }
-        ensures one_more { result ≡ true → second ≡ self.old.second
-            → self.new.told ≡ self.old.told + 1 }
-        ensures left_out { result ≡ false → (second ≡ self.old.second) × (10 ≤ self.old.told)
-            × (self.new.told ≡ self.old.told) × (self.new.second ≡ self.old.second)
-            × ((self.new.left_out ≡ self.old.left_out + 1) ⊎ (self.new.left_out ≡ 2 ^ 64 - 1)) }
+        ensures { Counts second result self.old self.new }
     {
         if second != self.second {
             self.second = second;
@@ -65,30 +58,20 @@ impl LineLimit {
         }
     }
 
-    /// How many lines were left out so far, if any were: each is counted once.
-    pub fn take_left_out(&mut self) -> Option<u64>
-        ensures some { IfSome result (λ n. (n ≡ self.old.left_out) × (1 ≤ n)
-            × (self.new ≡ record self.old { left_out = 0 })) }
-        ensures none { IfNone result ((self.old.left_out ≡ 0) × (self.new ≡ self.old)) }
+    /// Whether it owes: in a second those of another, or, where all is over, all that was left out.
+    pub fn owes(&self, second: Option<i64>) -> bool
+        ensures { result ≡ true ↔ Owes second self.now }
     {
-        if self.left_out == 0 {
-            return None;
-        }
-        let count = self.left_out;
-        self.left_out = 0;
-        Some(count)
+        self.left_out > 0 && second != Some(self.second)
     }
 
-    /// The same, once the second that they were left out in is over.
-    pub fn owes(&mut self, second: i64) -> Option<u64>
-        ensures some { IfSome result (λ n. (n ≡ self.old.left_out) × (1 ≤ n)
-            × (self.new ≡ record self.old { left_out = 0 })) }
-        ensures none { IfNone result (((self.old.left_out ≡ 0) ⊎ (second ≡ self.old.second))
-            × (self.new ≡ self.old)) }
+    /// How many lines were left out since that was told last: each is counted once.
+    pub fn pay(&mut self) -> u64
+        ensures count { result ≡ self.old.left_out }
+        ensures paid { self.new ≡ paid self.old }
     {
-        if second == self.second {
-            return None;
-        }
-        self.take_left_out()
+        let count = self.left_out;
+        self.left_out = 0;
+        count
     }
 }
