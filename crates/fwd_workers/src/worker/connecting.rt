@@ -2,12 +2,14 @@
 
 ghost use Rattle.std.specs.Prelude.{
   ◌≡◌,
+  ◌≢◌,
   Some,
   None,
   Ok,
   Err,
   false,
   IfOk,
+  IfErr,
   IfSome,
   IsOk,
   IsErr,
@@ -29,7 +31,7 @@ use crate::upstream::{IdleUpstream, WorkerState};
 use crate::upstream_end::{give_back, give_back_now};
 use crate::upstream_turn::free_upstream;
 use fwd_base::Bytes;
-use fwd_environment::{Clock, Hub};
+use fwd_environment::{Clock, Hub, LinkFault};
 use fwd_handshake::draw_salt;
 use fwd_output::{ChunkUse, ServerView, Tally};
 use fwd_session::{OwnedSalt, Session};
@@ -232,6 +234,7 @@ impl Worker {
             self.old.acks context.entry.now.now server)) }
         ensures on { IfOk result (λ free. free.upstream.ending ≡ None) }
         ensures doubts { self.new.doubts ≡ self.old.doubts }
+        ensures unmet { IfErr result (λ why. why ≢ NoSession.Link LinkFault.Memory) }
     {
         let link = match hub.connect(context.rt, server) {
             Ok(link) => link,
