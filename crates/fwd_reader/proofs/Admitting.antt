@@ -8,11 +8,13 @@ use Rattle.std.proofs.lemmas.List.Elements.{All-cons, All-head, All-nil, All-set
 use Rattle.fwd_match.specs.Patterns.{route}
 use Rattle.fwd_modes.specs.Requests.{Request}
 use Rattle.fwd_modes.specs.declared.origin.Origin.{Origin}
+use Rattle.fwd_peers.specs.Costs.{upkeep}
 use Rattle.fwd_peers.specs.Peers.{PeerShown, Gives, first_route}
 use Rattle.fwd_reader.specs.declared.open_tickets.OpenTickets.{OpenTickets}
 use Rattle.fwd_reader.specs.declared.output_route.OutputRoute.{OutputRoute}
 use Rattle.fwd_reader.specs.Admissions.{Admits, Enters, KeepsTicketOf}
-use Rattle.fwd_reader.specs.Routers.{stores_of}
+use Rattle.fwd_reader.specs.Owing.{owes_more}
+use Rattle.fwd_reader.specs.Routers.{RouterShown, stores_of}
 use Rattle.fwd_reader.specs.Promises.{HoldsRouted}
 use Rattle.fwd_reader.proofs.Routed.{open_tickets_keep}
 
@@ -36,16 +38,20 @@ enters router number output_route after asked lt is keeps = record {
   others = map-set (λ o. o.open_tickets) router number after;
 }
 
-pub admits : (routes : List (List (List ℕ))) (stores after : List OpenTickets) (s t : PeerShown)
-    (number : ℕ) (asked : Origin × Request)
-    → Some number ≡ first_route routes s → Gives s (Some asked) t
-    → Enters stores number asked after → Admits routes stores s after t
-admits routes stores after s t number asked routed gives entered = record {
+-- and so the first request that waits at a source is admitted
+pub admits : (o p : RouterShown) (s t : PeerShown) (number : ℕ) (asked : Origin × Request)
+    → Some number ≡ first_route o.routes s → Gives s (Some asked) t
+    → Enters o.stores number asked p.stores
+    → p.owed ≡ owes_more number (upkeep asked.1.tag asked.1.chunk) o.owed → p.routes ≡ o.routes
+    → Admits o s p t
+admits o p s t number asked routed gives entered owed routes = record {
   asked = asked;
   given = gives;
   number = number;
-  named = sym (routed ∙ ap (option_and_then (λ a. route routes a.1.tag)) gives.0);
+  named = sym (routed ∙ ap (option_and_then (λ a. route o.routes a.1.tag)) gives.0);
   entered = entered;
+  owed = owed;
+  routes = routes;
 }
 
 -- the tickets of the route at a place, where each one's are routed

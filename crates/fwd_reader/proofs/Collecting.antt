@@ -32,19 +32,19 @@ changes P xs n x y lt is changed = record {
 }
 
 -- what was put at a place is there
-set_there : (ss : List OpenTickets) (n : ℕ) (s t : OpenTickets) → slice_get ss n ≡ Some s
+pub set_there : (ss : List OpenTickets) (n : ℕ) (s t : OpenTickets) → slice_get ss n ≡ Some s
     → slice_get (slice_set ss n t) n ≡ Some t
 set_there [] n s t there = absurd cc
 set_there (x ∷ xs) zero s t there = refl
 set_there (x ∷ xs) (suc n) s t there = set_there xs n s t there
 
-set_twice : (ss : List OpenTickets) (n : ℕ) (s t : OpenTickets)
+pub set_twice : (ss : List OpenTickets) (n : ℕ) (s t : OpenTickets)
     → slice_set (slice_set ss n s) n t ≡ slice_set ss n t
 set_twice [] n s t = refl
 set_twice (x ∷ xs) zero s t = refl
 set_twice (x ∷ xs) (suc n) s t = ap (λ l. x ∷ l) (set_twice xs n s t)
 
-some_same : (s t : OpenTickets) → Some s ≡ Some t → s ≡ t
+pub some_same : (s t : OpenTickets) → Some s ≡ Some t → s ≡ t
 some_same s t e = cc
 
 module _ (told : Sources) where

@@ -10,6 +10,7 @@ pub mod Refusing
 pub mod Settling
 pub mod Collecting
 pub mod Owing
+pub mod Answering
 pub mod Standing
 pub mod Queueing
 pub mod Waiting

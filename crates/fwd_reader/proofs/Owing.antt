@@ -2,7 +2,9 @@
 use Rattle.std.proofs.Common.{arith, ◌≡◌, ◌<◌, ◌≤◌, ◌-◌, ℕ, zero, suc, List, [], ◌∷◌, length, get_or, refl, ap, ◌∙◌}
 use Rattle.std.specs.Prelude.{map, slice_set}
 use Rattle.fwd_reader.specs.declared.admission.source_line.SourceLine.{SourceLine}
+use Rattle.fwd_reader.specs.declared.open_tickets.OpenTickets.{OpenTickets}
 use Rattle.fwd_reader.specs.Owing.{changed_at}
+use Rattle.fwd_reader.specs.Routers.{RouterShown}
 
 -- what is owed in these lines
 abbrev pub owed_in : List SourceLine → List ℕ
@@ -41,3 +43,13 @@ none_answered bytes n [] none = refl
 none_answered bytes zero (x ∷ xs) none =
     let same : x ≡ x - bytes = omega arith in ap (λ o. o ∷ xs) same
 none_answered bytes (suc n) (x ∷ xs) none = ap (λ os. x ∷ os) (none_answered bytes n xs none)
+
+-- another amount is owed at an output
+pub changes : (routes : List (List (List ℕ))) (stores : List OpenTickets) (n : ℕ)
+    (change : ℕ → ℕ) (before after : List ℕ) (o : RouterShown) → after ≡ changed_at n change before
+    → record { routes = routes; stores = stores; owed = before } ≡ o
+    → record { routes = routes; stores = stores; owed = after }
+    ≡ record o { owed = changed_at n change o.owed }
+changes routes stores n change before after o changed is =
+    (λ i. record { routes = routes; stores = stores; owed = changed i })
+    ∙ ap (λ (x : RouterShown). record x { owed = changed_at n change x.owed }) is

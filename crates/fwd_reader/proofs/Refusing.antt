@@ -52,16 +52,15 @@ none_there (x ∷ xs) zero le = absurd (omega arith)
 none_there (x ∷ xs) (suc n) le = none_there xs n (omega arith)
 
 -- one more request is admitted
-pub another : (routes : List (List (List ℕ))) (asked : List (Origin × Request))
-    (stores between after : List OpenTickets) (s u t : PeerShown)
-    → AdmitsAll routes asked stores s between u → (one : Admits routes between u after t)
-    → AdmitsAll routes (asked ++ one.asked ∷ []) stores s after t
-another routes [] stores between after s u t none one =
-    let here : (o : Admits routes stores s after t) × (o.asked ≡ one.asked) =
-    subst (λ x. (o : Admits routes x s after t) × (o.asked ≡ one.asked)) none.0
-    (subst (λ x. (o : Admits routes between x after t) × (o.asked ≡ one.asked)) none.1 (one, refl)) in
-    (after, (t, (here.0, (here.1, (refl, refl)))))
-another routes (a ∷ others) stores between after s u t some one = (
+pub another : (asked : List (Origin × Request)) (o between p : RouterShown) (s u t : PeerShown)
+    → AdmitsAll asked o s between u → (one : Admits between u p t)
+    → AdmitsAll (asked ++ one.asked ∷ []) o s p t
+another [] o between p s u t none one =
+    let here : (a : Admits o s p t) × (a.asked ≡ one.asked) =
+    subst (λ x. (a : Admits x s p t) × (a.asked ≡ one.asked)) none.0
+    (subst (λ x. (a : Admits between x p t) × (a.asked ≡ one.asked)) none.1 (one, refl)) in
+    (p, (t, (here.0, (here.1, (refl, refl)))))
+another (a ∷ others) o between p s u t some one = (
   some.0,
   (
     some.1.0,
@@ -69,7 +68,7 @@ another routes (a ∷ others) stores between after s u t some one = (
       some.1.1.0,
       (
         some.1.1.1.0,
-        another routes others some.0 between after some.1.0 u t some.1.1.1.1 one,
+        another others some.0 between p some.1.0 u t some.1.1.1.1 one,
       ),
     ),
   ),
@@ -121,15 +120,14 @@ no_items (r ∷ rs) none = absurd (omega (arith, none))
 
 -- of the requests of a source some were admitted, and one has to wait
 pub has_to_wait : (o now next : RouterShown) (s u t : PeerShown) → now.routes ≡ o.routes
-    → ((asked : List (Origin × Request)) × AdmitsAll o.routes asked o.stores s now.stores u)
+    → ((asked : List (Origin × Request)) × AdmitsAll asked o s now u)
     → (next ≡ now) × (t ≡ u)
     → ((number : ℕ) × (first_route now.routes u ≡ Some number))
-    → AdmitsAndWaits o.routes o.stores s next.stores t
+    → AdmitsAndWaits o s next t
 has_to_wait o now next s u t same some stays named = record {
   asked = some.0;
-  admitted = subst (λ (x : RouterShown). AdmitsAll o.routes some.0 o.stores s x.stores t)
-      (sym stays.0)
-      (subst (λ x. AdmitsAll o.routes some.0 o.stores s now.stores x) (sym stays.1) some.1);
+  admitted = subst (λ (x : RouterShown). AdmitsAll some.0 o s x t) (sym stays.0)
+      (subst (λ x. AdmitsAll some.0 o s now x) (sym stays.1) some.1);
   number = named.0;
   named = subst (λ x. first_route o.routes x ≡ Some named.0) (sym stays.1)
       (subst (λ r. first_route r u ≡ Some named.0) same named.1);
@@ -137,22 +135,22 @@ has_to_wait o now next s u t same some stays named = record {
 
 -- or one is refused
 pub is_refused : (o now next : RouterShown) (s u v t : PeerShown) (why told : CloseReason)
-    (bytes : ℕ) → now.routes ≡ o.routes
-    → ((asked : List (Origin × Request)) × AdmitsAll o.routes asked o.stores s now.stores u)
-    → Refuses now.routes now.stores u why next.stores v
+    (bytes : ℕ)
+    → ((asked : List (Origin × Request)) × AdmitsAll asked o s now u)
+    → Refuses now u why next v
     → ((limit : ℕ) × (told ≡ sized why bytes limit))
     → t ≡ record v { stage = stage.Over; why = Some (end_by told) }
     → u.live.waiting ≢ []
-    → AdmitsAndRefuses o.routes o.stores s next.stores t
-is_refused o now next s u v t why told bytes same some refuses limit ends waits = record {
+    → AdmitsAndRefuses o s next t
+is_refused o now next s u v t why told bytes some refuses limit ends waits = record {
   asked = some.0;
-  between = now.stores;
+  between = now;
   before = u;
   admitted = some.1;
   waits = waits;
   why = why;
   refused = v;
-  refuses = subst (λ r. Refuses r now.stores u why next.stores v) same refuses;
+  refuses = refuses;
   ended = (
     bytes,
     (
@@ -165,8 +163,8 @@ is_refused o now next s u v t why told bytes same some refuses limit ends waits 
 
 -- or none is left
 pub none_left : (o now : RouterShown) (s u : PeerShown)
-    → ((asked : List (Origin × Request)) × AdmitsAll o.routes asked o.stores s now.stores u)
-    → length u.live.waiting ≡ 0 → AdmitsEach o.routes o.stores s now.stores u
+    → ((asked : List (Origin × Request)) × AdmitsAll asked o s now u)
+    → length u.live.waiting ≡ 0 → AdmitsEach o s now u
 none_left o now s u some count = record {
   asked = some.0;
   admitted = some.1;
@@ -179,40 +177,43 @@ pub some_wait : (u : PeerShown) (i count : ℕ) → i + length u.live.waiting �
 some_wait u i count all lt none = absurd (omega (arith, ap length none))
 
 -- no output is named for the first request that waits: nothing changes
-pub no_route : (routes : List (List (List ℕ))) (stores : List OpenTickets) (s : PeerShown)
-    → None ≡ first_route routes s → Refuses routes stores s close_reason.NoRoute stores s
-no_route routes stores s none = record {
+pub no_route : (o : RouterShown) (s : PeerShown)
+    → None ≡ first_route o.routes s → Refuses o s close_reason.NoRoute o s
+no_route o s none = record {
   reason = inl (sym none, refl, refl);
-  same = all_same stores;
+  same = all_same o.stores;
+  owed = refl;
 }
 
 -- there is no room for its acknowledgement
-pub no_room : (routes : List (List (List ℕ))) (stores : List OpenTickets) (s t : PeerShown)
-    (number : ℕ) → Some number ≡ first_route routes s → Gives s None t
-    → Refuses routes stores s (close_reason.Refused number refusal.Memory) stores t
-no_room routes stores s t number named gives = record {
+pub no_room : (o : RouterShown) (s t : PeerShown) (number : ℕ)
+    → Some number ≡ first_route o.routes s → Gives s None t
+    → Refuses o s (close_reason.Refused number refusal.Memory) o t
+no_room o s t number named gives = record {
   reason = inr (inl (number, (sym named, refl, gives)));
-  same = all_same stores;
+  same = all_same o.stores;
+  owed = refl;
 }
 
 -- its output does not take it
-pub declined : (routes : List (List (List ℕ))) (stores after : List OpenTickets) (s t : PeerShown)
-    (number : ℕ) (asked : Origin × Request) (why : CloseReason)
-    → Some number ≡ first_route routes s → Gives s (Some asked) t
-    → IsDeclined stores number why → AreAllSame stores after → Refuses routes stores s why after t
-declined routes stores after s t number asked why named gives is same = record {
+pub declined : (o p : RouterShown) (s t : PeerShown) (number : ℕ) (asked : Origin × Request)
+    (why : CloseReason) → Some number ≡ first_route o.routes s → Gives s (Some asked) t
+    → IsDeclined o.stores number why → AreAllSame o.stores p.stores → p.owed ≡ o.owed
+    → Refuses o s why p t
+declined o p s t number asked why named gives is same owed = record {
   reason = inr (inr (
     asked,
     (
       number,
       (
         gives,
-        sym (named ∙ ap (option_and_then (λ a. route routes a.1.tag)) gives.0),
+        sym (named ∙ ap (option_and_then (λ a. route o.routes a.1.tag)) gives.0),
         is,
       ),
     ),
   ));
   same = same;
+  owed = owed;
 }
 
 -- what holds of an error holds of a result that is just that

@@ -8,6 +8,7 @@ use Rattle.fwd_modes.specs.Requests.{Request}
 use Rattle.fwd_modes.specs.declared.origin.Origin.{Origin}
 use Rattle.fwd_book.specs.declared.refusal.AdmitRefusal.{AdmitRefusal}
 use Rattle.fwd_book.specs.declared.refusal.AdmitRefusal.TheVariants as refusal
+use Rattle.fwd_peers.specs.Costs.{upkeep}
 use Rattle.fwd_peers.specs.Peers.{PeerShown, Gives, end_by, first_route, sized}
 use Rattle.fwd_peers.specs.declared.close_reason.CloseReason.{CloseReason}
 use Rattle.fwd_peers.specs.declared.close_reason.CloseReason.TheVariants as close_reason
@@ -15,6 +16,8 @@ use Rattle.fwd_peers.specs.declared.peer_state.PeerState.TheVariants as stage
 use Rattle.fwd_output.specs.Tickets.{Ticket}
 use Rattle.fwd_reader.specs.declared.open_tickets.OpenTickets.{OpenTickets}
 use Rattle.fwd_reader.specs.OpenTickets.{AreAllSame, Keeps}
+use Rattle.fwd_reader.specs.Owing.{owes_more}
+use Rattle.fwd_reader.specs.Routers.{RouterShown}
 
 -- an output keeps one ticket more, in one of its stores, which shows just this request of this
 -- connection, at the output of this number
@@ -37,14 +40,17 @@ pub record Enters (stores : List OpenTickets) (number : ℕ) (asked : Origin × 
   pub others : after ≡ slice_set stores number with_ticket
 
 -- The first request that waits at a source is given, and entered at the output that the routes name
--- first for its tag: the ticket that is kept of it tells the number of just that output.
-pub record Admits (routes : List (List (List ℕ))) (stores : List OpenTickets) (s : PeerShown)
-    (after : List OpenTickets) (t : PeerShown) : Type 0 where
+-- first for its tag: the ticket that is kept of it tells the number of just that output. What the
+-- request takes beside its entries is owed there, and no other output owes more or less.
+pub record Admits (o : RouterShown) (s : PeerShown) (p : RouterShown) (t : PeerShown)
+    : Type 0 where
   pub asked : Origin × Request
   pub given : Gives s (Some asked) t
   pub number : ℕ
-  pub named : route routes asked.1.tag ≡ Some number
-  pub entered : Enters stores number asked after
+  pub named : route o.routes asked.1.tag ≡ Some number
+  pub entered : Enters o.stores number asked p.stores
+  pub owed : p.owed ≡ owes_more number (upkeep asked.1.tag asked.1.chunk) o.owed
+  pub routes : p.routes ≡ o.routes
 
 -- The output of this number did not take a request that it was handed, and why its source is
 -- closed: for the output's reason; or no output stands there.
@@ -66,12 +72,13 @@ IsRefusedFor routes stores s why t =
     ⊎ ((asked : Origin × Request) × ((number : ℕ) × (Gives s (Some asked) t
     × (route routes asked.1.tag ≡ Some number) × IsDeclined stores number why))))
 
--- the first request that waits at a source is refused for this reason, and no output keeps a ticket
--- of it
-pub record Refuses (routes : List (List (List ℕ))) (stores : List OpenTickets) (s : PeerShown)
-    (why : CloseReason) (after : List OpenTickets) (t : PeerShown) : Type 0 where
-  pub reason : IsRefusedFor routes stores s why t
-  pub same : AreAllSame stores after
+-- the first request that waits at a source is refused for this reason, no output keeps a ticket of
+-- it, and none owes more or less
+pub record Refuses (o : RouterShown) (s : PeerShown) (why : CloseReason) (p : RouterShown)
+    (t : PeerShown) : Type 0 where
+  pub reason : IsRefusedFor o.routes o.stores s why t
+  pub same : AreAllSame o.stores p.stores
+  pub owed : p.owed ≡ o.owed
 
 -- a source is over since a request of it was refused for this reason; a request that is larger than
 -- all that its output may hold is told to be
@@ -83,41 +90,41 @@ IsEndedFor why s t =
     }))
 
 -- these requests of a source are admitted one after the other, each as the first that waits
-abbrev pub AdmitsAll : (routes : List (List (List ℕ))) → List (Origin × Request)
-    → List OpenTickets → PeerShown → List OpenTickets → PeerShown → Type 0
-AdmitsAll routes [] stores s after t = (after ≡ stores) × (t ≡ s)
-AdmitsAll routes (asked ∷ others) stores s after t =
-    (between : List OpenTickets) × ((u : PeerShown) × ((one : Admits routes stores s between u)
-    × ((one.asked ≡ asked) × AdmitsAll routes others between u after t)))
+abbrev pub AdmitsAll : List (Origin × Request) → RouterShown → PeerShown → RouterShown → PeerShown
+    → Type 0
+AdmitsAll [] o s p t = (p ≡ o) × (t ≡ s)
+AdmitsAll (asked ∷ others) o s p t =
+    (between : RouterShown) × ((u : PeerShown) × ((one : Admits o s between u)
+    × ((one.asked ≡ asked) × AdmitsAll others between u p t)))
 
 -- all requests that wait at a source are admitted: none is left
-pub record AdmitsEach (routes : List (List (List ℕ))) (stores : List OpenTickets) (s : PeerShown)
-    (after : List OpenTickets) (t : PeerShown) : Type 0 where
+pub record AdmitsEach (o : RouterShown) (s : PeerShown) (p : RouterShown) (t : PeerShown)
+    : Type 0 where
   pub asked : List (Origin × Request)
-  pub admitted : AdmitsAll routes asked stores s after t
+  pub admitted : AdmitsAll asked o s p t
   pub none : t.live.waiting ≡ []
 
 -- some are, and the next has to wait: it is the first that waits still, and the routes name an
 -- output for its tag
-pub record AdmitsAndWaits (routes : List (List (List ℕ))) (stores : List OpenTickets)
-    (s : PeerShown) (after : List OpenTickets) (t : PeerShown) : Type 0 where
+pub record AdmitsAndWaits (o : RouterShown) (s : PeerShown) (p : RouterShown) (t : PeerShown)
+    : Type 0 where
   pub asked : List (Origin × Request)
-  pub admitted : AdmitsAll routes asked stores s after t
+  pub admitted : AdmitsAll asked o s p t
   pub number : ℕ
-  pub named : first_route routes t ≡ Some number
+  pub named : first_route o.routes t ≡ Some number
 
 -- some are, and the next is refused: the source is over for that reason, and nothing behind it is
 -- given
-pub record AdmitsAndRefuses (routes : List (List (List ℕ))) (stores : List OpenTickets)
-    (s : PeerShown) (after : List OpenTickets) (t : PeerShown) : Type 0 where
+pub record AdmitsAndRefuses (o : RouterShown) (s : PeerShown) (p : RouterShown) (t : PeerShown)
+    : Type 0 where
   pub asked : List (Origin × Request)
-  pub between : List OpenTickets
+  pub between : RouterShown
   pub before : PeerShown
-  pub admitted : AdmitsAll routes asked stores s between before
+  pub admitted : AdmitsAll asked o s between before
   pub waits : before.live.waiting ≢ []
   pub why : CloseReason
   pub refused : PeerShown
-  pub refuses : Refuses routes between before why after refused
+  pub refuses : Refuses between before why p refused
   pub ended : IsEndedFor why refused t
 
 -- the entries of a request, where its sender asked for no acknowledgement of them

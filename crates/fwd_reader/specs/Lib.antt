@@ -5,8 +5,9 @@
 -- Tellings, who is told of receipts; Collections, of which receipts; Rounds, at which outputs they
 -- are collected, and how often; Promises, what is promised of each; Idling, which source gives its
 -- place to a new one; Lateness, which connection had its time; Ages, how old something is;
--- Entering, who may enter an output; Owing, what outputs owe. OpenConnections, Queues, Turning,
--- Routers and Waiting only describe the code.
+-- Entering, who may enter an output; Owing, what outputs owe; Answering, what they answer, and owe
+-- no more; Routers, what is seen of a router; Queues, which connections are ready, may be written,
+-- or wait. OpenConnections, Lending and Turning only describe the code.
 pub mod Ends
 pub mod Admissions
 pub mod Stores
@@ -24,5 +25,6 @@ pub mod Entering
 pub mod Settlements
 pub mod Rounds
 pub mod Owing
+pub mod Answering
 pub mod Queues
-pub mod Waiting
+pub mod Lending

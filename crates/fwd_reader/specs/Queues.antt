@@ -1,7 +1,10 @@
--- The queues of connections that are ready, or may be written. A key stands in each at most once: a
--- flag of its connection tells that it does. This is seen of a call.
+-- The queues of connections that are ready, may be written, or wait. A key stands in each at most
+-- once: a flag of its connection tells that it does. This is seen of a call.
 use Rattle.std.specs.Prelude.{◌≡◌, ◌≤◌, ◌⊎◌, ◌||◌, ℕ, Bool, true, false, List, [], ◌∷◌, ◌++◌, length, Option, Some, None, option_map}
+use Rattle.std.specs.VecDeque.{deque_capacity}
 use Rattle.slab.specs.Slab as slots
+use Rattle.fwd_reader.specs.declared.peer.Peer.{Peer}
+use Rattle.fwd_reader.specs.declared.peer.Peer.TheVariants as kind
 use Rattle.fwd_reader.specs.declared.connections.OpenConnection.{OpenConnection}
 use Rattle.fwd_reader.specs.declared.connections.Connections.{Connections}
 
@@ -21,6 +24,10 @@ is_ready_at c key = option_map (λ o. o.is_ready) (slots.get c.opened key)
 -- the same of those that may be written
 abbrev pub is_writable_at : Connections → (key : ℕ) → Option Bool
 is_writable_at c key = option_map (λ o. o.is_writable) (slots.get c.opened key)
+
+-- and of those whose requests wait
+abbrev pub is_queued_at : Connections → (key : ℕ) → Option Bool
+is_queued_at c key = option_map (λ o. o.is_queued) (slots.get c.opened key)
 
 -- whether the system told that the other side of the connection at a key closed, if one is open
 -- there
@@ -47,6 +54,24 @@ made_ready is_closing o =
 abbrev pub made_writable : OpenConnection → OpenConnection
 made_writable o = record o { is_writable = true }
 
+-- since when it has waited, once it waits from a moment on
+abbrev pub waits_since : Option ℕ → (now : ℕ) → ℕ
+waits_since None now = now
+waits_since (Some since) now = since
+
+-- it stands among those whose requests wait, from a moment on, where it did not wait before
+abbrev pub made_queued : (now : ℕ) → OpenConnection → OpenConnection
+made_queued now o =
+    record o { is_queued = true; waiting_since = Some (waits_since o.waiting_since now) }
+
+-- no request of it waits any more
+abbrev pub waits_no_more : OpenConnection → OpenConnection
+waits_no_more o = record o { waiting_since = None }
+
+-- it stands no more among those whose requests wait
+abbrev pub made_unqueued : OpenConnection → OpenConnection
+made_unqueued o = record o { is_queued = false }
+
 -- it stands no more among those that are ready
 abbrev pub was_read : OpenConnection → OpenConnection
 was_read o = record o { is_ready = false }
@@ -54,3 +79,38 @@ was_read o = record o { is_ready = false }
 -- nor among those that may be written
 abbrev pub was_written : OpenConnection → OpenConnection
 was_written o = record o { is_writable = false }
+
+-- A source is told something: it stands among those that may be written then. Where what stands at
+-- a key is none, nothing comes to stand there.
+abbrev pub IsWritten : (there : Option Peer) → (key : ℕ) → (s t : Connections) → Type 0
+IsWritten None key s t = t.writable ≡ s.writable
+IsWritten (Some (kind.Monitor monitor)) key s t = t.writable ≡ s.writable
+IsWritten (Some (kind.Source source)) key s t =
+    (is_writable_at t key ≡ Some true)
+    × Queues (is_writable_at s key) key (deque_capacity s.writable)
+    s.writable.items t.writable.items
+
+-- what is ready once a source that was told to wait, or not, is asked again: it is, where it waited
+abbrev pub IsAsked : (was_queued : Option Bool) → (key : ℕ) → (s t : Connections) → Type 0
+IsAsked None key s t = (t.opened ≡ s.opened) × (t.ready ≡ s.ready)
+IsAsked (Some false) key s t =
+    (t.opened ≡ with_changed s.opened key made_unqueued) × (t.ready ≡ s.ready)
+IsAsked (Some true) key s t =
+    (t.opened ≡ with_changed s.opened key (λ o. made_ready false (made_unqueued o)))
+    × Queues (is_ready_at s key) key (deque_capacity s.ready) s.ready.items t.ready.items
+
+-- the source at a key is asked again: it stands no more among those whose requests wait, and is
+-- ready if it stood there
+abbrev pub Retries : (key : ℕ) → (s t : Connections) → Type 0
+Retries key s t = IsAsked (is_queued_at s key) key s t
+
+-- so is the first of those whose keys stand there, if one does, which is taken out
+abbrev pub RetriesFirst : (waiting : List ℕ) → (s t : Connections) → Type 0
+RetriesFirst [] s t = (t.waiting.items ≡ []) × (t.opened ≡ s.opened) × (t.ready ≡ s.ready)
+RetriesFirst (key ∷ keys) s t = (t.waiting.items ≡ keys) × Retries key s t
+
+-- these are, one after the other
+abbrev pub RetriesAll : (waiting : List ℕ) → (s t : Connections) → Type 0
+RetriesAll [] s t = (t.opened ≡ s.opened) × (t.ready ≡ s.ready)
+RetriesAll (key ∷ keys) s t =
+    (between : Connections) × (RetriesFirst (key ∷ keys) s between × RetriesAll keys between t)

@@ -50,9 +50,10 @@
 //! `Connections::idlest`, `Connections::crowded_out`, `PlaceRule::choice`. That whoever waits is
 //! asked again no clause says: `tests/full` tries it.
 
-ghost use Rattle.std.specs.Prelude.{◌≡◌, ◌+◌, ◌-◌};
+ghost use Rattle.std.specs.Prelude.{◌≡◌, ◌<◌, ◌+◌, ◌-◌, true, map, length, IfOk};
 ghost use Rattle.fwd_peers.specs.Costs.{bounded};
-ghost use Rattle.fwd_reader.specs.Owing.{changed_at, owed_at_each};
+ghost use Rattle.fwd_reader.specs.Entering.{owed_limit};
+ghost use Rattle.fwd_reader.specs.Owing.{MayOwe, changed_at, limits_in, owed_at_each};
 
 mod eviction_candidate;
 mod full_report;
@@ -120,7 +121,12 @@ impl<'a> Admission<'a> {
         alloc: Global,
         outputs: &'a [Output],
         reader: usize,
-    ) -> Result<Admission<'a>, AllocError> {
+    ) -> Result<Admission<'a>, AllocError>
+        ensures owed { IfOk result (λ admission.
+            owed_at_each admission ≡ map (λ output. 0) outputs.now) }
+        ensures limits { IfOk result (λ admission.
+            limits_in admission ≡ map (λ output. owed_limit output.total) outputs.now) }
+    {
         let mut lines = Vec::with_capacity(alloc, outputs.len())?;
         for output in outputs {
             lines.push(SourceLine::new(alloc, output, reader))?;
@@ -135,8 +141,12 @@ impl<'a> Admission<'a> {
 
     /// Whether the first request that waits at a source may enter the output of this number. Where
     /// it may not, it waits there from now on.
+    #[tactic(auto, using(crate::proofs::Owing::line_stays))]
     pub fn ask<R: Wait>(&mut self, rt: &R, output: u16, source: &mut SourcePeer) -> bool
-        ensures { source.new ≡ source.old }
+        ensures within { result ≡ true → output < length self.old.outputs.now
+            → MayOwe self.old output source.old.owed }
+        ensures source { source.new ≡ source.old }
+        ensures owed { owed_at_each self.new ≡ owed_at_each self.old }
     {
         let Some(own) = self.outputs.get(output as usize) else {
             return true;
@@ -188,8 +198,10 @@ impl<'a> Admission<'a> {
     }
 
     /// A source goes: it waits at no output any more, and whoever is next in line may be admitted.
+    #[tactic(auto, using(crate::proofs::Owing::line_stays))]
     pub fn leave<R: Wait>(&mut self, rt: &R, source: &mut SourcePeer)
-        ensures { source.new ≡ source.old }
+        ensures source { source.new ≡ source.old }
+        ensures owed { owed_at_each self.new ≡ owed_at_each self.old }
     {
         let Some(place) = source.waiting_place() else {
             return;
@@ -237,17 +249,36 @@ impl<'a> Admission<'a> {
 
     /// Whether a source that waits has its turn now by other readers, which is looked at again; and
     /// an observer is told at which outputs sources wait, at a moment (milliseconds).
-    pub fn tend<R: Wait, W: Observer>(&mut self, rt: &R, observer: &mut W, now: u64) {
-        for ((output, own), line) in (0..u16::MAX).zip(self.outputs).zip(&mut self.lines) {
-            self.is_moved = line.gets_turn(rt, own) || self.is_moved;
-            match line.news(own, now) {
-                None => {}
-                Some(FullNews::Full(sources)) => observer.observe(JournalEvent::Full {
-                    output,
-                    sources,
-                }),
-                Some(FullNews::Room) => observer.observe(JournalEvent::Room { output }),
+    pub fn tend<R: Wait, W: Observer>(&mut self, rt: &R, observer: &mut W, now: u64)
+        ensures { owed_at_each self.new ≡ owed_at_each self.old }
+    {
+        for output in 0..u16::MAX {
+            if self.lines.len() <= output as usize {
+                break;
             }
+            self.tend_at(rt, output, observer, now);
+        }
+    }
+
+    /// The same at the output of this number, if there is one.
+    #[tactic(auto, using(crate::proofs::Owing::line_stays))]
+    fn tend_at<R: Wait, W: Observer>(&mut self, rt: &R, output: u16, observer: &mut W, now: u64)
+        ensures { owed_at_each self.new ≡ owed_at_each self.old }
+    {
+        let Some(own) = self.outputs.get(output as usize) else {
+            return;
+        };
+        let Some(line) = self.lines.get_mut(output as usize) else {
+            return;
+        };
+        self.is_moved = line.gets_turn(rt, own) || self.is_moved;
+        match line.news(own, now) {
+            None => {}
+            Some(FullNews::Full(sources)) => observer.observe(JournalEvent::Full {
+                output,
+                sources,
+            }),
+            Some(FullNews::Room) => observer.observe(JournalEvent::Room { output }),
         }
     }
 

@@ -1,9 +1,14 @@
 //! The connections that stand.
 
-ghost use Rattle.std.specs.Prelude.{◌≡◌, ℕ, false, not, true, IfNone, IfSome};
+ghost use Rattle.std.specs.Borrow.{sem};
+ghost use Rattle.std.specs.BTreeMap as tree;
+ghost use Rattle.std.specs.Option.{option_copied_mut};
+ghost use Rattle.std.specs.Ordering.{nat_cmp};
+ghost use Rattle.std.specs.Prelude.{◌≡◌, ℕ, Some, false, not, true, IfNone, IfSome};
 ghost use Rattle.fwd_reader.specs.Idling.{IsCrowding, IsIdlest, NoneIsIdle};
 ghost use Rattle.fwd_reader.specs.Idling as idling;
 ghost use Rattle.fwd_reader.specs.Lateness.{IsLate, is_late};
+ghost use Rattle.fwd_reader.specs.Lending.{LendsAt, LendsConnection};
 ghost use Rattle.fwd_reader.specs.OpenConnections.{
   connection_at,
   is_source,
@@ -13,6 +18,7 @@ ghost use Rattle.fwd_reader.specs.OpenConnections.{
   sources_in,
   without,
 };
+ghost use Rattle.fwd_reader.specs.Queues.{IsWritten};
 ghost use Rattle.fwd_reader.specs.Tellings.{AreTold, IsToldAt, IsToldOf, sources_without};
 
 mod queues;
@@ -55,6 +61,14 @@ pub(crate) struct OpenConnection {
 }
 
 impl OpenConnection {
+    /// The connection itself.
+    fn connection_mut(&mut self) -> &mut Peer
+        ensures* lends { sem 𝓛 (LendsConnection self.entry result) }
+        ensures value { result.now ≡ self.old.connection }
+    {
+        &mut self.connection
+    }
+
     /// Since when it could give its place to a new one (milliseconds), where it is a source and
     /// does not wait to be read: it has been silent, and neither it nor the relay owes the other
     /// anything; or it waits at an output, and sends its request again, since it asked for an
@@ -350,8 +364,12 @@ impl Connections {
     }
 
     /// The connection of this key, if it stands.
-    pub fn at(&mut self, key: usize) -> Option<&mut Peer> {
-        Some(&mut self.opened.get_mut(key)?.connection)
+    pub fn at(&mut self, key: usize) -> Option<&mut Peer>
+        ensures* lends { sem 𝓛 (LendsAt self.entry key result) }
+        ensures value { option_copied_mut result ≡ connection_at self.old key }
+    {
+        let opened = self.opened.get_mut(key)?;
+        Some(opened.connection_mut())
     }
 
     /// The key of the source that could have given its place to a new one for longest at a moment
@@ -412,7 +430,10 @@ impl Connections {
 
     /// Tells a receipt to the source whose request it is of, where that still stands.
     fn tell(&mut self, receipt: &Receipt)
-        ensures { IsToldOf (sources_in self.old) receipt.now (sources_in self.new) }
+        ensures told { IsToldOf (sources_in self.old) receipt.now (sources_in self.new) }
+        ensures written { (key : ℕ)
+            → tree.get nat_cmp self.old.sources receipt.now.origin.conn ≡ Some key
+            → IsWritten (connection_at self.old key) key self.old self.new }
     {
         let Some(key) = self.sources.get(&receipt.origin().conn) else {
             return;

@@ -3,6 +3,7 @@
 ghost use Rattle.std.specs.Prelude.{◌≡◌, ℕ, List, true, false, OnOk, OnErr};
 ghost use Rattle.fwd_reader.specs.Admissions.{KeepsTicketOf, silent_entries};
 ghost use Rattle.fwd_reader.specs.OpenTickets.{AreSame};
+ghost use Rattle.fwd_reader.specs.Answering.{AnswersSome};
 ghost use Rattle.fwd_reader.specs.Owing.{upkeep_of};
 ghost use Rattle.fwd_reader.specs.OpenConnections.{sources_in};
 ghost use Rattle.fwd_reader.specs.Collections.{Collects, CollectsInPart, CollectsWhole};
@@ -68,9 +69,6 @@ pub(crate) struct OutputRoute<'a> {
     pub timer: &'a mut FlushTimer,
     /// The greatest number of a chunk that requests went to.
     newest: Option<u64>,
-    /// What requests took beside their entries that were answered since that was last asked for, in
-    /// bytes.
-    answered: u64,
     /// What was accepted since that was last asked for.
     accepted: Accepted,
 }
@@ -86,7 +84,6 @@ impl<'a> OutputRoute<'a> {
             open_tickets: OpenTickets::new(alloc),
             timer,
             newest: None,
-            answered: 0,
             accepted: Accepted::NOTHING,
         }
     }
@@ -180,13 +177,15 @@ impl<'a> OutputRoute<'a> {
     }
 
     /// Hands in tickets that are due, block by block, and tells the sources of their receipts: some
-    /// hundred, the others when it is called again. The only error is out of memory, and then those
+    /// hundred, the others when it is called again. It is added up what the requests took beside
+    /// their entries that are answered, in bytes. The only error is out of memory, and then those
     /// that were last handed in are to be handed in still.
     #[tactic(auto, using(crate::proofs::Told::nothing, crate::proofs::Told::no_round))]
     pub fn collect<R: Wait>(
         &mut self,
         rt: &R,
         connections: &mut Connections,
+        answered: &mut u64,
     ) -> Result<(), AllocError>
         ensures each { OnOk result (Collects
             self.old.open_tickets (sources_in connections.old)
@@ -197,6 +196,9 @@ impl<'a> OutputRoute<'a> {
         ensures part { OnErr result (CollectsInPart
             self.old.open_tickets (sources_in connections.old)
             self.new.open_tickets (sources_in connections.new)) }
+        ensures answers { AnswersSome
+            self.old.open_tickets (sources_in connections.old) answered.old
+            self.new.open_tickets (sources_in connections.new) answered.new }
         ensures routed { (routes : List (List (List ℕ))) → HoldsRouted routes self.old.open_tickets
             → HoldsRouted routes self.new.open_tickets }
         ensures promised { (routes : List (List (List ℕ)))
@@ -209,16 +211,9 @@ impl<'a> OutputRoute<'a> {
             }
             let receipts = self.open_tickets.hand_in(rt, self.alloc, self.output)?;
             connections.tell_all(&receipts);
-            self.answered = self.answered.saturating_add(upkeep_of(&receipts));
+            *answered = answered.saturating_add(upkeep_of(&receipts));
         }
         Ok(())
-    }
-
-    /// What requests took beside their entries that were answered since the last call, in bytes.
-    pub fn take_answered(&mut self) -> u64
-        ensures { self.new.open_tickets ≡ self.old.open_tickets }
-    {
-        mem::replace(&mut self.answered, 0)
     }
 
     /// What was accepted since the last call.
@@ -236,7 +231,6 @@ impl<'a> OutputRoute<'a> {
             open_tickets,
             timer: _,
             newest: _,
-            answered: _,
             accepted: _,
         } = self;
         open_tickets.close(rt, output);

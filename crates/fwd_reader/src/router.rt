@@ -28,21 +28,13 @@ ghost use Rattle.fwd_reader.specs.Admissions.{
   IsDeclined,
   Refuses,
 };
-ghost use Rattle.fwd_reader.specs.Collections.{CollectsInPart, CollectsWhole};
-ghost use Rattle.fwd_reader.specs.OpenConnections.{sources_in};
-ghost use Rattle.fwd_reader.specs.OpenTickets.{AreAllSame, AreQuiet, TellsDue, all_due, due_at};
-ghost use Rattle.fwd_reader.specs.Promises.{TellsPromised};
-ghost use Rattle.fwd_reader.specs.Rounds.{
-  ChangesAt,
-  CollectsAll,
-  CollectsEach,
-  CollectsOnce,
-  most_rounds,
-};
+ghost use Rattle.fwd_reader.specs.OpenTickets.{AreAllSame, all_due, due_at};
+ghost use Rattle.fwd_reader.specs.Owing.{owes_more};
 ghost use Rattle.fwd_reader.specs.Settlements.{Hears, HearsOf, SettlesAt};
 
+mod collecting;
+
 use crate::admission::Admission;
-use crate::connections::Connections;
 use crate::flush_timer::FlushTimer;
 use crate::open_tickets::Backlog;
 use crate::output::{Output, sized};
@@ -52,14 +44,11 @@ use fwd_environment::WorkerEvent;
 use fwd_links::Notices;
 use fwd_match::Routes;
 use fwd_modes::{Batch, Origin};
-use fwd_monitors::{Accepted, JournalEvent, MemoryFor, Observer, SharedTally};
+use fwd_monitors::{Accepted, Observer, SharedTally};
 use fwd_peers::{CloseReason, SourcePeer, upkeep};
 use std::alloc::{AllocError, AllocFailed, Global};
 use std::marker::Model;
 use std::sync::Wait;
-
-/// The most rounds of collecting at the end of a run.
-const ROUNDS: u32 = 1 << 20;
 
 /// How many bytes are kept in reserve for collecting receipts: what is settled is given back only
 /// once they are collected. Without this reserve a relay whose memory the sources have used up
@@ -88,12 +77,17 @@ pub struct Router<'a> {
 
 impl<'a> Model for Router<'a> {
     ghost use Rattle.std.specs.Prelude.{All};
+    ghost use Rattle.fwd_reader.specs.Owing.{owed_at_each};
     ghost use Rattle.fwd_reader.specs.Routers.{RouterShown, stores_of};
     ghost use Rattle.fwd_reader.specs.Promises.{HoldsRouted};
 
     ghost Value = { RouterShown };
 
-    ghost view = { λ o. record { routes = o.routes.now; stores = stores_of o.all.items } };
+    ghost view = { λ o. record {
+      routes = o.routes.now;
+      stores = stores_of o.all.items;
+      owed = owed_at_each o.admission;
+    } };
 
     ghost invariant = { λ o. All (HoldsRouted o.routes.now) (stores_of o.all.items) };
 }
@@ -124,7 +118,9 @@ impl<'a> Router<'a> {
         alloc: Global,
         parts: RouterParts<'a>,
     ) -> Result<Router<'a>, AllocError>
-        ensures { IfOk result (λ router. router.routes ≡ parts.entry.routes.now) }
+        ensures routes { IfOk result (λ router. router.routes ≡ parts.entry.routes.now) }
+        ensures owed { IfOk result (λ router.
+            router.owed ≡ map (λ output. 0) parts.entry.outputs.now) }
     {
         let RouterParts {
             reader,
@@ -162,12 +158,9 @@ impl<'a> Router<'a> {
     /// have to wait longer. A request that is refused ends the source, and what waits behind it is
     /// not looked at.
     pub fn admit_all<R: Wait>(&mut self, rt: &R, source: &mut SourcePeer, now: u64) -> bool
-        ensures waits { result ≡ true → AdmitsAndWaits self.old.routes self.old.stores source.old
-            self.new.stores source.new }
-        ensures done { result ≡ false
-            → AdmitsEach self.old.routes self.old.stores source.old self.new.stores source.new
-            ⊎ AdmitsAndRefuses self.old.routes self.old.stores source.old
-            self.new.stores source.new }
+        ensures waits { result ≡ true → AdmitsAndWaits self.old source.old self.new source.new }
+        ensures done { result ≡ false → AdmitsEach self.old source.old self.new source.new
+            ⊎ AdmitsAndRefuses self.old source.old self.new source.new }
         ensures routes { self.new.routes ≡ self.old.routes }
     {
         for _ in 0..source.waiting() {
@@ -192,22 +185,20 @@ impl<'a> Router<'a> {
         source: &mut SourcePeer,
         now: u64,
     ) -> Result<(), NotAdmitted>
-        ensures admitted { OnOk result (Admits self.old.routes self.old.stores source.old
-            self.new.stores source.new) }
+        ensures admitted { OnOk result (Admits self.old source.old self.new source.new) }
         ensures waits { IfErr result (λ why. why ≡ NotAdmitted.Waits
             → (self.new ≡ self.old) × (source.new ≡ source.old)) }
         ensures named { IfErr result (λ why. why ≡ NotAdmitted.Waits
             → (number : ℕ) × (first_route self.old.routes source.old ≡ Some number)) }
         ensures refused { IfErr result (λ why. (reason : CloseReason)
             → why ≡ NotAdmitted.Ends reason
-            → Refuses self.old.routes self.old.stores source.old reason
-            self.new.stores source.new) }
+            → Refuses self.old source.old reason self.new source.new) }
         ensures routes { self.new.routes ≡ self.old.routes }
     {
         let Some(output) = source.route(self.routes) else {
             return Err(NotAdmitted::Ends(CloseReason::NoRoute));
         };
-        if !self.admission.ask(rt, output, source) {
+        if !self.may_enter(rt, output, source) {
             return Err(NotAdmitted::Waits);
         }
         let backlog = Backlog::of(source);
@@ -221,8 +212,25 @@ impl<'a> Router<'a> {
         let entered = self.enter(rt, output, backlog, asked, now);
         self.admission.release(rt, output, bytes);
         entered?;
-        self.admission.owes(output, owed);
+        self.owes(output, owed);
         Ok(())
+    }
+
+    /// Whether the first request that waits at a source may enter the output of this number. Where
+    /// it may not, it waits there from now on.
+    fn may_enter<R: Wait>(&mut self, rt: &R, output: u16, source: &mut SourcePeer) -> bool
+        ensures this { self.new ≡ self.old }
+        ensures source { source.new ≡ source.old }
+    {
+        self.admission.ask(rt, output, source)
+    }
+
+    /// The output of this number owes an answer to a request more, which takes so many bytes beside
+    /// its entries.
+    fn owes(&mut self, output: u16, bytes: u64)
+        ensures { self.new ≡ record self.old { owed = owes_more output bytes self.old.owed } }
+    {
+        self.admission.owes(output, bytes);
     }
 
     /// Enters a request at a moment (milliseconds) at the output of this number, which the routes
@@ -244,6 +252,7 @@ impl<'a> Router<'a> {
             → IsDeclined self.old.stores output reason) }
         ensures same { OnErr result (AreAllSame self.old.stores self.new.stores) }
         ensures routes { self.new.routes ≡ self.old.routes }
+        ensures owed { self.new.owed ≡ self.old.owed }
     {
         let Some(output_route) = self.all.get_mut(output as usize) else {
             return Err(NotAdmitted::Ends(CloseReason::NoRoute));
@@ -273,7 +282,7 @@ impl<'a> Router<'a> {
     /// Whether a source that waits has its turn now by other readers, which is looked at again; and
     /// an observer is told at which outputs sources wait, at a moment (milliseconds).
     pub fn tend<R: Wait, W: Observer>(&mut self, rt: &R, observer: &mut W, now: u64)
-        ensures { self.new.routes ≡ self.old.routes }
+        ensures { self.new ≡ self.old }
     {
         self.admission.tend(rt, observer, now);
     }
@@ -311,7 +320,7 @@ impl<'a> Router<'a> {
     /// an output at which sources wait for room, or of each where the relay drains, where a worker
     /// could send them.
     pub fn flush<R: Wait>(&mut self, rt: &R, now: u64, is_draining: bool)
-        ensures { self.new.routes ≡ self.old.routes }
+        ensures { self.new ≡ self.old }
     {
         for place in 0..self.all.len() {
             self.flush_at(rt, place, now, is_draining);
@@ -320,7 +329,7 @@ impl<'a> Router<'a> {
 
     /// Closes those of the output at a place.
     fn flush_at<R: Wait>(&mut self, rt: &R, place: usize, now: u64, is_draining: bool)
-        ensures { self.new.routes ≡ self.old.routes }
+        ensures { self.new ≡ self.old }
     {
         let has_waiting = self.admission.has_waiting(place);
         let Some(output_route) = self.all.get_mut(place) else {
@@ -353,10 +362,18 @@ impl<'a> Router<'a> {
         Some(output_route.take_accepted())
     }
 
+    /// Something was settled: requests that wait may be admitted now.
+    fn note_moved(&mut self)
+        ensures { self.new ≡ self.old }
+    {
+        self.admission.note_moved();
+    }
+
     /// Workers settled chunks: the tickets that waited for those are to be handed in.
     pub fn hear(&mut self, notices: &Notices)
         ensures heard { Hears notices.now self.old.stores self.new.stores }
         ensures routes { self.new.routes ≡ self.old.routes }
+        ensures owed { self.new.owed ≡ self.old.owed }
     {
         if notices.missed {
             self.settle_all();
@@ -370,9 +387,10 @@ impl<'a> Router<'a> {
     fn hear_of(&mut self, output: u16, event: WorkerEvent)
         ensures heard { HearsOf output event self.old.stores self.new.stores }
         ensures routes { self.new.routes ≡ self.old.routes }
+        ensures owed { self.new.owed ≡ self.old.owed }
     {
         if let WorkerEvent::Settled { number, server: _ } = event {
-            self.admission.note_moved();
+            self.note_moved();
             self.settle(output as usize, number);
         }
     }
@@ -381,6 +399,7 @@ impl<'a> Router<'a> {
     fn settle(&mut self, place: usize, chunk: u64)
         ensures settled { SettlesAt self.old.stores place chunk self.new.stores }
         ensures routes { self.new.routes ≡ self.old.routes }
+        ensures owed { self.new.owed ≡ self.old.owed }
     {
         let Some(output_route) = self.all.get_mut(place) else {
             return;
@@ -392,8 +411,9 @@ impl<'a> Router<'a> {
     pub(crate) fn settle_all(&mut self)
         ensures due { self.new.stores ≡ map all_due self.old.stores }
         ensures routes { self.new.routes ≡ self.old.routes }
+        ensures owed { self.new.owed ≡ self.old.owed }
     {
-        self.admission.note_moved();
+        self.note_moved();
         for place in 0..self.all.len() {
             self.settle_at(place);
         }
@@ -403,162 +423,12 @@ impl<'a> Router<'a> {
     fn settle_at(&mut self, place: usize)
         ensures due { self.new.stores ≡ due_at place self.old.stores }
         ensures routes { self.new.routes ≡ self.old.routes }
+        ensures owed { self.new.owed ≡ self.old.owed }
     {
         let Some(output_route) = self.all.get_mut(place) else {
             return;
         };
         output_route.open_tickets.settle_all();
-    }
-
-    /// Hands in tickets that are due, each at its output, and tells the sources of their receipts:
-    /// of each output some hundred. Where memory is refused for them what is kept in reserve is
-    /// given back, and they are collected again. It says whether more are due, but for those that
-    /// memory was refused for.
-    #[tactic(auto, using(crate::proofs::Told::nothing, crate::proofs::Told::on))]
-    pub fn collect<R: Wait, W: Observer>(
-        &mut self,
-        rt: &R,
-        connections: &mut Connections,
-        observer: &mut W,
-    ) -> bool
-        ensures promised { TellsPromised self.old.routes
-            (sources_in connections.old) (sources_in connections.new) }
-        ensures each { CollectsEach self.old.stores (sources_in connections.old) result
-            self.new.stores (sources_in connections.new) }
-        ensures routes { self.new.routes ≡ self.old.routes }
-    {
-        self.refill();
-        let mut is_more = false;
-        for number in 0..u16::MAX {
-            if self.all.len() <= number as usize {
-                break;
-            }
-            is_more = self.collect_at(rt, number, connections, observer) || is_more;
-            self.note_answered(number);
-        }
-        is_more
-    }
-
-    /// Memory is taken into reserve where none is there.
-    fn refill(&mut self)
-        ensures { self.new ≡ self.old }
-    {
-        if self.reserve.capacity() > 0 {
-            return;
-        }
-        let _ = self.reserve.reserve(RESERVE);
-    }
-
-    /// The same of the output of this number, if there is one.
-    #[tactic(auto, using(crate::proofs::Told::on))]
-    fn collect_at<R: Wait, W: Observer>(
-        &mut self,
-        rt: &R,
-        number: u16,
-        connections: &mut Connections,
-        observer: &mut W,
-    ) -> bool
-        ensures promised { TellsPromised self.old.routes
-            (sources_in connections.old) (sources_in connections.new) }
-        ensures once { number < length self.old.stores → ChangesAt
-            (λ s t. CollectsOnce s (sources_in connections.old) result
-            t (sources_in connections.new))
-            self.old.stores number self.new.stores }
-        ensures routes { self.new.routes ≡ self.old.routes }
-    {
-        if let Ok(is_more) = self.try_collect(rt, number, connections) {
-            return is_more;
-        }
-        self.reserve = Vec::new(self.alloc);
-        match self.try_collect(rt, number, connections) {
-            Ok(is_more) => is_more,
-            Err(_) => {
-                observer.observe(JournalEvent::Memory(MemoryFor::Output(number)));
-                false
-            }
-        }
-    }
-
-    /// The same, with the memory that is to be had. The only error is out of memory.
-    #[tactic(auto, using(crate::proofs::Told::nothing))]
-    fn try_collect<R: Wait>(
-        &mut self,
-        rt: &R,
-        number: u16,
-        connections: &mut Connections,
-    ) -> Result<bool, AllocError>
-        ensures promised { TellsPromised self.old.routes
-            (sources_in connections.old) (sources_in connections.new) }
-        ensures whole { number < length self.old.stores → IfOk result (λ more. ChangesAt
-            (λ s t. CollectsWhole most_rounds s (sources_in connections.old)
-            t (sources_in connections.new) × TellsDue more t)
-            self.old.stores number self.new.stores) }
-        ensures part { number < length self.old.stores → OnErr result (ChangesAt
-            (λ s t. CollectsInPart s (sources_in connections.old)
-            t (sources_in connections.new))
-            self.old.stores number self.new.stores) }
-        ensures routes { self.new.routes ≡ self.old.routes }
-    {
-        let Some(output_route) = self.all.get_mut(number as usize) else {
-            return Ok(false);
-        };
-        output_route.collect(rt, connections)?;
-        Ok(output_route.open_tickets.is_due())
-    }
-
-    /// What was answered at the output of this number is owed no more.
-    fn note_answered(&mut self, number: u16)
-        ensures { self.new ≡ self.old }
-    {
-        let bytes = self.take_answered(number);
-        self.admission.answered(number, bytes);
-    }
-
-    /// What requests took beside their entries that the output of this number answered since the
-    /// last call, in bytes.
-    fn take_answered(&mut self, number: u16) -> u64
-        ensures { self.new ≡ self.old }
-    {
-        let Some(output_route) = self.all.get_mut(number as usize) else {
-            return 0;
-        };
-        output_route.take_answered()
-    }
-
-    /// Hands in all tickets, and tells the sources of their receipts.
-    #[tactic(auto, using(crate::proofs::Told::nothing, crate::proofs::Told::on))]
-    pub fn collect_all<R: Wait, W: Observer>(
-        &mut self,
-        rt: &R,
-        connections: &mut Connections,
-        observer: &mut W,
-    )
-        ensures promised { TellsPromised self.old.routes
-            (sources_in connections.old) (sources_in connections.new) }
-        ensures all { CollectsAll ROUNDS self.old.stores (sources_in connections.old)
-            self.new.stores (sources_in connections.new) }
-        ensures routes { self.new.routes ≡ self.old.routes }
-    {
-        self.settle_all();
-        for _ in 0..ROUNDS {
-            if !self.is_due() {
-                return;
-            }
-            self.collect(rt, connections, observer);
-        }
-    }
-
-    /// Whether there are tickets to be handed in.
-    fn is_due(&self) -> bool
-        ensures quiet { result ≡ false → All AreQuiet self.now.stores }
-        ensures due { result ≡ true → ¬ (All AreQuiet self.now.stores) }
-    {
-        for output_route in &self.all {
-            if output_route.open_tickets.is_due() {
-                return true;
-            }
-        }
-        false
     }
 
     /// The tickets that are left are abandoned.

@@ -1,7 +1,7 @@
 //! Which of a reader's sources may enter one output, and which wait.
 
 ghost use Rattle.std.specs.Prelude.{◌≡◌, ◌≢◌, false, true};
-ghost use Rattle.fwd_reader.specs.Entering.{EntersInTurn};
+ghost use Rattle.fwd_reader.specs.Entering.{EntersInTurn, may_owe, owed_limit};
 ghost use Rattle.fwd_reader.specs.Turning.{has_turn};
 
 use super::full_report::FullNews;
@@ -58,7 +58,10 @@ pub(crate) struct SourceLine {
 
 impl SourceLine {
     /// Nobody waits at an output without entries, of the sources of the reader of this number.
-    pub fn new(alloc: Global, output: &Output, reader: usize) -> SourceLine {
+    pub fn new(alloc: Global, output: &Output, reader: usize) -> SourceLine
+        ensures owed { result.owed.owed ≡ 0 }
+        ensures limit { result.owed.limit ≡ owed_limit output.now.total }
+    {
         SourceLine {
             owed: OwedLimit::new(output.total),
             room: 0,
@@ -77,6 +80,8 @@ impl SourceLine {
         number: u16,
         source: &mut SourcePeer,
     ) -> Answer
+        ensures within { result.enters ≡ true
+            → may_owe self.old.owed.limit self.old.owed.owed source.old.owed ≡ true }
         ensures source { source.new ≡ source.old }
         ensures owed { self.new.owed ≡ self.old.owed }
     {
@@ -106,6 +111,8 @@ impl SourceLine {
     fn judge<R: Wait>(&mut self, rt: &R, output: &Output, source: &SourcePeer) -> Verdict
         ensures in_turn { result ≡ Verdict.Enters → output.now.waits_when_full ≡ true
             → EntersInTurn self.old.ids.items source.now.id self.new.ids.items }
+        ensures within { result ≡ Verdict.Enters
+            → may_owe self.old.owed.limit self.old.owed.owed source.now.owed ≡ true }
         ensures owed { self.new.owed ≡ self.old.owed }
     {
         let (id, is_in_line) = (source.id(), is_in_line(source));

@@ -10,7 +10,7 @@ loop-receipt-preserved c t rest =
     c.loop-receipt.invariant t
     (told_next (sources_in c.loop-receipt.self) (sources_in c.tell.new.self) c.args.receipts.now
     c.loop-receipt.receipt-index c.receipt-item.result c.loop-receipt-test.true
-    c.receipt-item.is c.tell.ensures t rest)
+    c.receipt-item.is c.tell.ensures.told t rest)
 
 pub returns : goal.returns
 returns c =

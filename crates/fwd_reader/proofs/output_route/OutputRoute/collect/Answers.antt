@@ -1,7 +1,10 @@
-use Rattle.std.proofs.Common.{arith, ◌+◌, suc, inl, inr, subst}
+use Rattle.std.proofs.Common.{arith, ◌≡◌, ◌+◌, suc, inl, inr, ap, subst}
+use Rattle.fwd_peers.specs.Costs.{bounded}
 use Rattle.fwd_reader.specs.OpenConnections.{sources_in}
 use Rattle.fwd_reader.specs.OpenTickets.{AreQuiet}
+use Rattle.fwd_reader.specs.Owing.{upkeep_of}
 use Rattle.fwd_reader.specs.Tellings.{AreTold}
+use Rattle.fwd_reader.proofs.Answering as answering
 use Rattle.fwd_reader.proofs.Told.{CollectsIn, a_round, collected, no_round, nothing, on, on_err, one_told, whole}
 use Rattle.fwd_reader.proofs.Routed.{open_tickets_handed, open_tickets_refused}
 use Rattle.fwd_reader.proofs.output_route.OutputRoute.collect.Goals as goal
@@ -13,6 +16,8 @@ loop-init g c = (
       subst
       (λ n. CollectsIn n c.args.self.now.open_tickets (sources_in c.args.connections.now) t told)
       (omega arith) some,
+  answering.none_more c.args.self.now.open_tickets (sources_in c.args.connections.now)
+      c.args.answered.now,
 )
 
 pub loop-preserved : goal.loop-preserved
@@ -34,6 +39,14 @@ loop-preserved g c = (
       (a_round c.loop.self.open_tickets c.hand_in.new.self t
       (sources_in c.loop.connections) (sources_in c.tell_all.new.self) then_told
       c.in_ok-receipts.receipts.items more c.in_ok-receipts.ensures.given due told others)),
+  answering.then_more c.args.self.now.open_tickets c.loop.self.open_tickets c.hand_in.new.self
+      (sources_in c.args.connections.now) (sources_in c.loop.connections)
+      (sources_in c.tell_all.new.self) c.args.answered.now c.loop.answered
+      c.saturating_add.result c.loop.invariant.2
+      (answering.one_round c.loop.self.open_tickets c.hand_in.new.self
+      (sources_in c.loop.connections) (sources_in c.tell_all.new.self)
+      c.in_ok-receipts.receipts.items c.loop.answered c.saturating_add.result
+      c.in_ok-receipts.ensures.given told sum),
 )
   where
     told : AreTold (sources_in c.loop.connections) c.in_ok-receipts.receipts.items
@@ -43,6 +56,15 @@ loop-preserved g c = (
 
     due : ¬ (AreQuiet c.loop.self.open_tickets)
     due = c.is_due.ensures.due c.if-not-is_due.false
+
+    sum : c.saturating_add.result
+        ≡ bounded (c.loop.answered + upkeep_of c.in_ok-receipts.receipts.items)
+    sum = omega (
+      arith,
+      c.saturating_add.ensures,
+      c.upkeep_of.ensures,
+      ap upkeep_of c.deref-in-loop.ensures.value,
+    )
 
 pub returns-in_err-receipts-clause-routed : goal.returns-in_err-receipts-clause-routed
 returns-in_err-receipts-clause-routed g c = λ routes held.
@@ -97,3 +119,12 @@ returns-then-not-is_due-clause-whole g c =
     (c.loop.invariant.1 0 c.loop.self.open_tickets (sources_in c.loop.connections)
     (no_round c.loop.self.open_tickets (sources_in c.loop.connections)))
     (omega arith) (inl (c.is_due.ensures.quiet c.if-not-is_due.true))
+
+pub returns-in_err-receipts-clause-answers : goal.returns-in_err-receipts-clause-answers
+returns-in_err-receipts-clause-answers g c =
+    answering.then_more c.args.self.now.open_tickets c.loop.self.open_tickets c.hand_in.new.self
+    (sources_in c.args.connections.now) (sources_in c.loop.connections)
+    (sources_in c.loop.connections) c.args.answered.now c.loop.answered c.loop.answered
+    c.loop.invariant.2
+    (answering.no_round c.loop.self.open_tickets c.hand_in.new.self
+    (sources_in c.loop.connections) c.loop.answered c.in_err-receipts.ensures.kept)

@@ -1,5 +1,6 @@
 use Rattle.std.proofs.Common.{ℕ, ◌+◌, List}
 use Rattle.fwd_reader.specs.declared.open_tickets.OpenTickets.{OpenTickets}
+use Rattle.fwd_reader.specs.Answering.{AnswersSome}
 use Rattle.fwd_reader.specs.OpenConnections.{sources_in}
 use Rattle.fwd_reader.specs.Tellings.{Sources}
 use Rattle.fwd_reader.specs.Promises.{HoldsRouted, TellsPromised}
@@ -14,3 +15,5 @@ invariant-loop g l =
     × ((more : ℕ) (t : OpenTickets) (told : Sources)
     → CollectsIn more l.self.open_tickets (sources_in l.connections) t told
     → CollectsIn (l.counter + more) l.fn.self.open_tickets (sources_in l.fn.connections) t told)
+    × AnswersSome l.fn.self.open_tickets (sources_in l.fn.connections) l.fn.answered
+    l.self.open_tickets (sources_in l.connections) l.answered

@@ -18,7 +18,7 @@ returns-in-Err-Ends-clause-done g c = λ no.
     inr
     (is_refused c.args.self.now c.loop.self c.admit.new.self c.args.source.now c.loop.source
     c.admit.new.source c.refuse.new.self c.in-Err-Ends.why c.sized.result c.asked_bytes-bytes.result
-    c.loop.invariant.0 c.loop.invariant.1
+    c.loop.invariant.1
     (c.in-Err-Ends.ensures.refused c.in-Err-Ends.why is)
     (subst
     (λ why. (limit : ℕ) × (c.sized.result ≡ sized why c.asked_bytes-bytes.result limit))
@@ -29,17 +29,13 @@ returns-in-Err-Ends-clause-done g c = λ no.
 
 pub loop-preserved : goal.loop-preserved
 loop-preserved g c =
-    let one : Admits c.args.self.now.routes c.loop.self.stores c.loop.source c.admit.new.self.stores
-    c.admit.new.source =
-    subst
-    (λ r. Admits r c.loop.self.stores c.loop.source c.admit.new.self.stores c.admit.new.source)
-    c.loop.invariant.0 c.in-Ok.ensures.admitted in (
+    let one : Admits c.loop.self c.loop.source c.admit.new.self c.admit.new.source =
+    c.in-Ok.ensures.admitted in (
       c.admit.ensures.routes ∙ c.loop.invariant.0,
       (
         c.loop.invariant.1.0 ++ one.asked ∷ [],
-        another c.args.self.now.routes c.loop.invariant.1.0 c.args.self.now.stores c.loop.self.stores
-            c.admit.new.self.stores c.args.source.now c.loop.source c.admit.new.source
-            c.loop.invariant.1.1 one,
+        another c.loop.invariant.1.0 c.args.self.now c.loop.self c.admit.new.self
+            c.args.source.now c.loop.source c.admit.new.source c.loop.invariant.1.1 one,
       ),
       omega (
         arith,

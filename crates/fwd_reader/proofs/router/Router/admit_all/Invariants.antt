@@ -8,6 +8,5 @@ use Rattle.fwd_reader.proofs.router.Router.admit_all.Given as goal
 abbrev pub invariant-loop : goal.invariant-loop
 invariant-loop g l =
     (l.self.routes ≡ l.fn.self.routes)
-    × ((asked : List (Origin × Request)) × AdmitsAll l.fn.self.routes asked l.fn.self.stores
-    l.fn.source l.self.stores l.source)
+    × ((asked : List (Origin × Request)) × AdmitsAll asked l.fn.self l.fn.source l.self l.source)
     × (l.counter + length l.source.live.waiting ≡ length l.fn.source.live.waiting)

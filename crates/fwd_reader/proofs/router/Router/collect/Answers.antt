@@ -3,6 +3,7 @@ use Rattle.fwd_reader.specs.OpenConnections.{sources_in}
 use Rattle.fwd_reader.specs.Promises.{TellsPromised}
 use Rattle.fwd_reader.specs.Rounds.{ChangesAt, CollectsFirst, CollectsOnce}
 use Rattle.fwd_reader.specs.Routers.{RouterShown}
+use Rattle.fwd_reader.proofs.Answering as answering
 use Rattle.fwd_reader.proofs.Collecting.{changed_length, first_more, first_none, one_or_other}
 use Rattle.fwd_reader.proofs.Settling.{each_store}
 use Rattle.fwd_reader.proofs.Told.{nothing, on}
@@ -20,6 +21,8 @@ loop-number-init g c = (
       (first_none c.args.self.now.stores (sources_in c.args.connections.now)),
   ap (λ (o : RouterShown). length o.stores) c.refill.ensures,
   omega arith,
+  answering.first_none c.args.self.now c.refill.new.self (sources_in c.args.connections.now)
+      c.refill.ensures,
 )
 
 pub loop-number-preserved : goal.loop-number-preserved
@@ -71,4 +74,9 @@ loop-number-preserved g c =
       ap (λ (o : RouterShown). length o.stores) c.note_answered.ensures ∙ count
           ∙ c.loop-number.invariant.3,
       omega (arith, within, c.loop-number.invariant.3),
+      answering.first_more c.loop-number.number c.collect_at.new.answered c.args.self.now
+          c.loop-number.self c.collect_at.new.self c.note_answered.new.self
+          (sources_in c.args.connections.now) (sources_in c.loop-number.connections)
+          (sources_in c.collect_at.new.connections) c.loop-number.invariant.5
+          (c.collect_at.ensures.answers within) c.collect_at.ensures.owed c.note_answered.ensures,
     )

@@ -1,4 +1,5 @@
 use Rattle.std.proofs.Common.{◌≡◌, ◌≤◌, length}
+use Rattle.fwd_reader.specs.Answering.{AnswersFirst}
 use Rattle.fwd_reader.specs.OpenConnections.{sources_in}
 use Rattle.fwd_reader.specs.Promises.{TellsPromised}
 use Rattle.fwd_reader.specs.Rounds.{CollectsFirst}
@@ -13,3 +14,5 @@ invariant-loop-number g l =
     l.self.stores (sources_in l.connections)
     × (length l.self.stores ≡ length l.fn.self.stores)
     × (l.number ≤ length l.fn.self.stores)
+    × AnswersFirst l.number l.fn.self (sources_in l.fn.connections) l.self
+    (sources_in l.connections)

@@ -3,6 +3,7 @@ use Rattle.fwd_reader.specs.OpenConnections.{sources_in}
 use Rattle.fwd_reader.specs.OpenTickets.{all_due}
 use Rattle.fwd_reader.specs.Promises.{TellsPromised}
 use Rattle.fwd_reader.specs.Rounds.{CollectsTimes}
+use Rattle.fwd_reader.proofs.Answering as answering
 use Rattle.fwd_reader.proofs.Collecting.{another_time, no_times}
 use Rattle.fwd_reader.proofs.Told.{nothing, on}
 use Rattle.fwd_reader.proofs.router.Router.collect_all.Goals as goal
@@ -16,6 +17,8 @@ loop-init g c = (
       (sources_in c.args.connections.now) stores (sources_in c.args.connections.now))
       (sym c.settle_all.ensures.due)
       (no_times (map all_due c.args.self.now.stores) (sources_in c.args.connections.now)),
+  answering.no_times c.args.self.now c.settle_all.new.self (sources_in c.args.connections.now)
+      c.settle_all.ensures.due c.settle_all.ensures.owed,
 )
 
 pub loop-preserved : goal.loop-preserved
@@ -31,4 +34,8 @@ loop-preserved g c = (
       c.collect.new.self.stores (sources_in c.args.connections.now)
       (sources_in c.loop.connections) (sources_in c.collect.new.connections) c.collect.result
       c.loop.invariant.2 (c.is_due.ensures.due c.if-not-is_due.false) c.collect.ensures.each,
+  answering.another_time c.loop.counter
+      (record c.args.self.now { stores = map all_due c.args.self.now.stores }) c.loop.self
+      c.collect.new.self (sources_in c.args.connections.now) (sources_in c.loop.connections)
+      (sources_in c.collect.new.connections) c.loop.invariant.3 c.collect.ensures.answers,
 )

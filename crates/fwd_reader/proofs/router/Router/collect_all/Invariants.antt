@@ -1,4 +1,5 @@
 use Rattle.std.proofs.Common.{◌≡◌, map}
+use Rattle.fwd_reader.specs.Answering.{AnswersTimes}
 use Rattle.fwd_reader.specs.OpenConnections.{sources_in}
 use Rattle.fwd_reader.specs.OpenTickets.{all_due}
 use Rattle.fwd_reader.specs.Promises.{TellsPromised}
@@ -12,3 +13,6 @@ invariant-loop g l =
     × TellsPromised l.fn.self.routes (sources_in l.fn.connections) (sources_in l.connections)
     × CollectsTimes l.counter (map all_due l.fn.self.stores) (sources_in l.fn.connections)
     l.self.stores (sources_in l.connections)
+    × AnswersTimes l.counter
+    (record l.fn.self { stores = map all_due l.fn.self.stores })
+    (sources_in l.fn.connections) l.self (sources_in l.connections)

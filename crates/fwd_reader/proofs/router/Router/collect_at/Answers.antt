@@ -1,5 +1,7 @@
 use Rattle.fwd_reader.specs.OpenConnections.{sources_in}
+use Rattle.fwd_reader.specs.Owing.{owed_at_each}
 use Rattle.fwd_reader.specs.Routers.{stores_of}
+use Rattle.fwd_reader.proofs.Answering.{then_again}
 use Rattle.fwd_reader.proofs.Collecting.{then_full, then_part}
 use Rattle.fwd_reader.proofs.router.Router.collect_at.Goals as goal
 
@@ -8,7 +10,11 @@ returns-in-Ok-try_collect-clause-once g c = λ within.
     then_full (sources_in c.args.connections.now) (sources_in c.try_collect.new.connections)
     (sources_in c.try_collect-2.new.connections) c.in-Ok-try_collect.is_more
     c.args.self.now.stores c.try_collect-2.new.self.stores
-    (record { routes = c.self.inside.routes.now; stores = stores_of c.self.inside.all.items })
+    (record {
+      routes = c.self.inside.routes.now;
+      stores = stores_of c.self.inside.all.items;
+      owed = owed_at_each c.self.inside.admission;
+    })
     c.try_collect.new.self c.args.number c.self.view_is within
     (c.in_default.ensures.part within) c.in-Ok-try_collect.ensures.whole
 
@@ -17,6 +23,38 @@ returns-in-Err-clause-once g c = λ within.
     then_part (sources_in c.args.connections.now) (sources_in c.try_collect.new.connections)
     (sources_in c.try_collect-2.new.connections)
     c.args.self.now.stores c.try_collect-2.new.self.stores
-    (record { routes = c.self.inside.routes.now; stores = stores_of c.self.inside.all.items })
+    (record {
+      routes = c.self.inside.routes.now;
+      stores = stores_of c.self.inside.all.items;
+      owed = owed_at_each c.self.inside.admission;
+    })
     c.try_collect.new.self c.args.number c.self.view_is within
     (c.in_default.ensures.part within) c.in-Err.ensures.part
+
+pub returns-in-Ok-try_collect-clause-answers : goal.returns-in-Ok-try_collect-clause-answers
+returns-in-Ok-try_collect-clause-answers g c = λ within.
+    then_again (sources_in c.args.connections.now) (sources_in c.try_collect.new.connections)
+    (sources_in c.try_collect-2.new.connections) c.args.answered.now
+    c.try_collect.new.answered c.try_collect-2.new.answered
+    c.args.self.now.stores c.try_collect-2.new.self.stores
+    (record {
+      routes = c.self.inside.routes.now;
+      stores = stores_of c.self.inside.all.items;
+      owed = owed_at_each c.self.inside.admission;
+    })
+    c.try_collect.new.self c.args.number c.self.view_is within
+    (c.in_default.ensures.answers within) c.in-Ok-try_collect.ensures.answers
+
+pub returns-in-Err-clause-answers : goal.returns-in-Err-clause-answers
+returns-in-Err-clause-answers g c = λ within.
+    then_again (sources_in c.args.connections.now) (sources_in c.try_collect.new.connections)
+    (sources_in c.try_collect-2.new.connections) c.args.answered.now
+    c.try_collect.new.answered c.try_collect-2.new.answered
+    c.args.self.now.stores c.try_collect-2.new.self.stores
+    (record {
+      routes = c.self.inside.routes.now;
+      stores = stores_of c.self.inside.all.items;
+      owed = owed_at_each c.self.inside.admission;
+    })
+    c.try_collect.new.self c.args.number c.self.view_is within
+    (c.in_default.ensures.answers within) c.in-Err.ensures.answers

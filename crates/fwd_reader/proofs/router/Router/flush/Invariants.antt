@@ -2,4 +2,4 @@ use Rattle.std.proofs.Common.{◌≡◌}
 use Rattle.fwd_reader.proofs.router.Router.flush.Given as goal
 
 abbrev pub invariant-loop-place : goal.invariant-loop-place
-invariant-loop-place g l = l.self.routes ≡ l.fn.self.routes
+invariant-loop-place g l = l.self ≡ l.fn.self

@@ -9,3 +9,4 @@ invariant-loop-notice l =
     (l.self.routes ≡ l.fn.self.routes)
     × ((t : List OpenTickets) → HearsAll (drop l.notice-index l.fn.notices.all.items) l.self.stores t
     → Hears l.fn.notices l.fn.self.stores t)
+    × (l.self.owed ≡ l.fn.self.owed)

@@ -9,6 +9,7 @@ loop-place-preserved c = (
   c.settle_at.ensures.due
       ∙ due_more c.loop-place.place c.args.self.now.stores c.loop-place.self.stores
       c.loop-place.invariant.1,
+  c.settle_at.ensures.owed ∙ c.loop-place.invariant.2,
 )
 
 pub returns-clause-due : goal.returns-clause-due
@@ -19,4 +20,5 @@ returns-clause-due c =
       arith,
       each_store c.self.inside.all.items,
       ap (λ (o : RouterShown). length o.stores) c.self.view_is,
+      ap (λ (o : RouterShown). length o.stores) c.note_moved.ensures,
     ))

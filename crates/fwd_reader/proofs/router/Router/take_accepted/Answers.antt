@@ -1,5 +1,6 @@
 use Rattle.std.proofs.Common.{arith, ◌∙◌, refl, sym, subst}
 use Rattle.std.specs.Prelude.{All}
+use Rattle.fwd_reader.specs.Owing.{owed_at_each}
 use Rattle.fwd_reader.specs.Promises.{HoldsRouted}
 use Rattle.fwd_reader.proofs.Admitting.{same_place}
 use Rattle.fwd_reader.proofs.router.Router.take_accepted.Goals as goal
@@ -16,4 +17,9 @@ returns c =
     let same = same_place c.self.inside.all.items c.args.number c.in-Some.output_route.now
     c.take_accepted.new.self (omega (arith, c.in-Some.ensures.variant.0 refl))
     c.in-Some.ensures.value c.take_accepted.ensures in
-    (λ i. record { routes = c.self.inside.routes.now; stores = same i }) ∙ c.self.view_is
+    (λ i. record {
+      routes = c.self.inside.routes.now;
+      stores = same i;
+      owed = owed_at_each c.self.inside.admission;
+    })
+    ∙ c.self.view_is

@@ -1,6 +1,7 @@
 use Rattle.std.proofs.Common.{arith, refl, subst}
 use Rattle.std.specs.Prelude.{slice_set}
 use Rattle.fwd_reader.specs.Routers.{RouterShown, stores_of}
+use Rattle.fwd_reader.specs.Answering.{AnswersSome}
 use Rattle.fwd_reader.specs.Collections.{CollectsInPart, CollectsWhole}
 use Rattle.fwd_reader.specs.OpenTickets.{TellsDue}
 use Rattle.fwd_reader.specs.Rounds.{ChangesAt, most_rounds}
@@ -78,3 +79,35 @@ returns-clause-whole g c = λ within.
       tells c.is_due.result c.collect.new.self.open_tickets
           c.is_due.ensures.quiet c.is_due.ensures.due,
     ))
+
+pub returns-in_err-collect-clause-answers : goal.returns-in_err-collect-clause-answers
+returns-in_err-collect-clause-answers g c = λ within.
+    subst
+    (λ (o : RouterShown). ChangesAt
+    (λ s t. AnswersSome s (sources_in c.args.connections.now) c.args.answered.now
+    t (sources_in c.collect.new.connections) c.collect.new.answered)
+    o.stores c.args.number
+    (stores_of (slice_set c.self.inside.all.items c.args.number c.collect.new.self)))
+    c.self.view_is
+    (changes
+    (λ s t. AnswersSome s (sources_in c.args.connections.now) c.args.answered.now
+    t (sources_in c.collect.new.connections) c.collect.new.answered)
+    c.self.inside.all.items c.args.number c.in-Some.output_route.now c.collect.new.self
+    (omega (arith, c.in-Some.ensures.variant.0 refl)) c.in-Some.ensures.value
+    c.collect.ensures.answers)
+
+pub returns-clause-answers : goal.returns-clause-answers
+returns-clause-answers g c = λ within.
+    subst
+    (λ (o : RouterShown). ChangesAt
+    (λ s t. AnswersSome s (sources_in c.args.connections.now) c.args.answered.now
+    t (sources_in c.collect.new.connections) c.collect.new.answered)
+    o.stores c.args.number
+    (stores_of (slice_set c.self.inside.all.items c.args.number c.collect.new.self)))
+    c.self.view_is
+    (changes
+    (λ s t. AnswersSome s (sources_in c.args.connections.now) c.args.answered.now
+    t (sources_in c.collect.new.connections) c.collect.new.answered)
+    c.self.inside.all.items c.args.number c.in-Some.output_route.now c.collect.new.self
+    (omega (arith, c.in-Some.ensures.variant.0 refl)) c.in-Some.ensures.value
+    c.collect.ensures.answers)

@@ -1,0 +1,17 @@
+use Rattle.std.proofs.Common.{sym, subst, ◌∙◌}
+use Rattle.std.specs.VecDeque.{deque_capacity}
+use Rattle.fwd_reader.specs.Queues.{Queues, is_queued_at}
+use Rattle.fwd_reader.proofs.connections.Connections.note_kept.Goals as goal
+
+pub returns-clause-stand : goal.returns-clause-stand
+returns-clause-stand c = c.keep.ensures.stand ∙ c.note_waiting.ensures.stand
+
+pub returns-clause-sources : goal.returns-clause-sources
+returns-clause-sources c = c.keep.ensures.sources ∙ c.note_waiting.ensures.sources
+
+pub returns-clause-queued : goal.returns-clause-queued
+returns-clause-queued c =
+    subst
+    (λ q. Queues (is_queued_at c.args.self.now c.args.key) c.args.key
+    (deque_capacity c.args.self.now.waiting) c.args.self.now.waiting.items q.items)
+    (sym c.keep.ensures.waiting) c.note_waiting.ensures.queued

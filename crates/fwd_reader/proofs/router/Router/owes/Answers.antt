@@ -1,0 +1,12 @@
+use Rattle.std.proofs.Common.{◌+◌}
+use Rattle.fwd_peers.specs.Costs.{bounded}
+use Rattle.fwd_reader.specs.Owing.{owed_at_each}
+use Rattle.fwd_reader.specs.Routers.{stores_of}
+use Rattle.fwd_reader.proofs.Owing.{changes}
+use Rattle.fwd_reader.proofs.router.Router.owes.Goals as goal
+
+pub returns : goal.returns
+returns c =
+    changes c.self.inside.routes.now (stores_of c.self.inside.all.items) c.args.output (λ owed. bounded (owed + c.args.bytes))
+    (owed_at_each c.self.inside.admission) (owed_at_each c.owes.new.self)
+    c.args.self.now c.owes.ensures c.self.view_is
