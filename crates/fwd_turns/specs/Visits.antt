@@ -1,5 +1,5 @@
 -- What is known of a source behind a visit, and what becomes of it.
-use Rattle.std.specs.Prelude.{◌≡◌, ◌==◌, ◌≤◌, ◌||◌, ◌&&◌, ℕ, Bool, true, false, not, length, Option, Some, None, if◌then◌else◌}
+use Rattle.std.specs.Prelude.{◌≡◌, ◌≤◌, ◌||◌, ℕ, Bool, true, false, not, Option, Some, None, if◌then◌else◌}
 use Rattle.fwd_peers.specs.declared.peer_state.PeerState.TheVariants as stage
 use Rattle.fwd_peers.specs.declared.close_reason.CloseReason.TheVariants as reason
 use Rattle.fwd_peers.specs.declared.close_reason.PeerEnd.{PeerEnd}
@@ -36,11 +36,6 @@ visited_of may_have_more waits is_closing s = record {
   stands = stands s.stage s.live.unsent;
   is_free = is_free s;
 }
-
--- a request of a source waits, and the sender of the first asked for no acknowledgement: it does
--- not send it again
-abbrev pub waits_unasked : PeerShown → Bool
-waits_unasked s = not (length s.live.waiting == 0) && not (asks s)
 
 -- it was ended for want of memory
 abbrev pub is_for_memory : Option PeerEnd → Bool

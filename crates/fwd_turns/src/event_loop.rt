@@ -1,11 +1,15 @@
 //! What the loop waits for, reads and writes.
 
+ghost use Rattle.std.specs.Prelude.{◌≡◌, ◌≢◌};
+ghost use Rattle.fwd_reader.specs.OpenConnections.{connection_at, without};
+ghost use Rattle.fwd_turns.specs.Keeping.{KeepsWaiting};
+
 use crate::acceptor::{Acceptor, Incoming, ListenConfig, SourceSetup};
 use crate::draining::{is_dropped, read_leaving};
 use crate::loop_memory::LoopMemory;
 use crate::lost_servers::{LostServers, fact_of};
 use crate::places::{PlaceRule, free_place, part, tell_closed};
-use crate::visiting::{After, after_visit, note, serve_monitor, tell_end, write_source};
+use crate::visiting::{After, after_visit, note, serve_monitor, tell_end, write_at};
 use fwd_environment::WorkerEvent;
 use fwd_links::{Mailbox, Notices, RunClock, SharedFlags};
 use fwd_listeners::tokens::{CONTROL, MONITORS, SOURCES, WAKER};
@@ -432,27 +436,22 @@ impl EventLoop {
 
     /// Writes what waits to be sent to the next connection that is told. A source of which requests
     /// wait is kept, as behind a visit that reads.
+    #[tactic(auto, using(crate::proofs::Keeping::keeps, crate::proofs::Keeping::all_stand))]
     fn write_next<R: Wait, W: Observer>(
         &mut self,
         rt: &R,
         router: &mut Router<'_>,
         observer: &mut W,
         now: u64,
-    ) {
-        let Some(Ready { key, to_end }) = self.connections.next_writable() else {
+    )
+        ensures { KeepsWaiting (connection_at self.old.connections)
+            (connection_at self.new.connections) }
+    {
+        let Some(ready) = self.connections.next_writable() else {
             return;
         };
-        let Some(connection) = self.connections.at(key) else {
-            return;
-        };
-        let after = match connection {
-            Peer::Source(source) => {
-                let _ = tell_end(source, observer);
-                write_source(source, to_end)
-            }
-            Peer::Monitor(_) => After::Again,
-        };
-        self.follow(rt, router, key, after, now);
+        let after = write_at(&mut self.connections, ready, observer);
+        self.follow(rt, router, ready.key, after, now);
     }
 
     /// What becomes of a connection behind a visit is noted, at a moment (milliseconds).
@@ -463,7 +462,12 @@ impl EventLoop {
         key: usize,
         after: After,
         now: u64,
-    ) {
+    )
+        ensures keeps { after ≢ After.Goes
+            → connection_at self.new.connections ≡ connection_at self.old.connections }
+        ensures goes { after ≡ After.Goes → connection_at self.new.connections
+            ≡ without key (connection_at self.old.connections) }
+    {
         match after {
             After::Waits => return self.connections.note_waiting(key, now),
             After::Kept => return self.connections.note_kept(key, now),

@@ -1,5 +1,8 @@
 //! What a reader's loop knows of memory.
 
+ghost use Rattle.std.specs.Prelude.{◌≡◌, Some, true, false, not, if◌then◌else◌};
+ghost use Rattle.fwd_turns.specs.Refusals.{is_past};
+
 use fwd_links::SharedFlags;
 use fwd_monitors::{JournalEvent, MemoryFor, Observer};
 
@@ -32,7 +35,9 @@ pub(crate) struct LoopMemory {
 }
 
 /// Whether so long (milliseconds) has passed at a moment since another one, if there was any.
-fn is_past(since: Option<u64>, pause: u64, now: u64) -> bool {
+fn is_past(since: Option<u64>, pause: u64, now: u64) -> bool
+    ensures { result ≡ is_past since pause now }
+{
     match since {
         Some(since) => since.saturating_add(pause) <= now,
         None => true,
@@ -54,13 +59,20 @@ impl LoopMemory {
 
     /// Whether sources are not to be read at a moment (milliseconds): a worker lacks memory, or it
     /// was refused for a source just now.
-    pub fn is_refused(&self, now: u64) -> bool {
+    pub fn is_refused(&self, now: u64) -> bool
+        ensures refused { is_past self.now.refused
+            (if self.now.is_settled then SETTLED else STARVED) now ≡ false → result ≡ true }
+    {
         let pause = if self.is_settled { SETTLED } else { STARVED };
         !is_past(self.refused, pause, now) || self.flags.is_lacking()
     }
 
     /// Connections are about to be read at a moment (milliseconds).
-    pub fn begin_reading(&mut self, now: u64) {
+    pub fn begin_reading(&mut self, now: u64)
+        ensures tight { self.new.is_tight ≡ not (is_past self.old.refused TIGHT now) }
+        ensures paused { self.new.is_paused ≡ false }
+        ensures refused { self.new.refused ≡ self.old.refused }
+    {
         self.is_paused = false;
         let is_tight = !is_past(self.refused, TIGHT, now);
         if is_tight != self.is_tight {
@@ -85,7 +97,9 @@ impl LoopMemory {
     }
 
     /// Memory was refused for a source at a moment (milliseconds).
-    pub fn refuse(&mut self, now: u64) {
+    pub fn refuse(&mut self, now: u64)
+        ensures { self.new ≡ record self.old { refused = Some now; is_settled = false } }
+    {
         self.refused = Some(now);
         self.is_settled = false;
     }

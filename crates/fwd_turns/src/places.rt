@@ -12,6 +12,7 @@
 
 ghost use Rattle.std.specs.Prelude.{
   ◌≡◌,
+  ◌≢◌,
   ◌⊎◌,
   ◌-◌,
   ◌/◌,
@@ -23,6 +24,7 @@ ghost use Rattle.std.specs.Prelude.{
   IfSome,
 };
 ghost use Rattle.fwd_reader.specs.Idling.{IsCrowding, IsIdlest};
+ghost use Rattle.fwd_reader.specs.OpenConnections.{connection_at, without};
 
 use crate::visiting::tell_end;
 use fwd_book::AdmitRefusal;
@@ -115,15 +117,26 @@ pub(crate) fn tell_closed<W: Observer>(
     }
 }
 
+/// The connection of a key waits at no output any more.
+fn leave<R: Wait>(rt: &R, connections: &mut Connections, router: &mut Router<'_>, key: usize)
+    ensures { (other : ℕ) → other ≢ key
+        → connection_at connections.new other ≡ connection_at connections.old other }
+{
+    if let Some(Peer::Source(source)) = connections.at(key) {
+        router.leave(rt, source);
+    }
+}
+
 /// The connection of a key goes, and waits at no output any more.
+#[tactic(auto, using(crate::proofs::Keeping::gone_then))]
 pub(crate) fn part<R: Wait>(
     rt: &R,
     connections: &mut Connections,
     router: &mut Router<'_>,
     key: usize,
-) {
-    if let Some(Peer::Source(source)) = connections.at(key) {
-        router.leave(rt, source);
-    }
+)
+    ensures { connection_at connections.new ≡ without key (connection_at connections.old) }
+{
+    leave(rt, connections, router, key);
     connections.remove(key);
 }

@@ -1,9 +1,12 @@
 //! A visit to a connection, and what becomes of the connection behind it.
 
 ghost use Rattle.std.specs.Prelude.{◌≡◌, ◌≢◌, ◌<◌, ◌⊎◌, [], None, length, true, false};
-ghost use Rattle.fwd_peers.specs.Peers.{Writes, stands};
+ghost use Rattle.fwd_peers.specs.Peers.{PeerShown, Writes, stands};
 ghost use Rattle.fwd_peers.specs.declared.peer_state.PeerState.TheVariants.{Open};
 ghost use Rattle.fwd_peers.specs.declared.limits.TheConstants.{UNSENT};
+ghost use Rattle.fwd_reader.specs.OpenConnections.{connection_at};
+ghost use Rattle.fwd_reader.specs.declared.peer.Peer.TheVariants.{Source};
+ghost use Rattle.fwd_turns.specs.Keeping.{IsVisited, IsWith, KeepsAt, waits_unasked};
 ghost use Rattle.fwd_turns.specs.Visits.{
   IsRead,
   after_of,
@@ -12,13 +15,12 @@ ghost use Rattle.fwd_turns.specs.Visits.{
   is_left,
   judged,
   visited_of,
-  waits_unasked,
 };
 
 use crate::event_loop::ReadContext;
 use fwd_monitors::{JournalEvent, MonitorPeer, MonitorVisit, Observer};
 use fwd_peers::{CloseReason, PeerEnd, SourcePeer};
-use fwd_reader::Connections;
+use fwd_reader::{Connections, Peer, Ready};
 use mio::event::Event;
 use std::alloc::{AllocError, Global};
 use std::sync::Wait;
@@ -126,10 +128,43 @@ pub(crate) fn after_visit(
     visited.after()
 }
 
-/// The same where nothing is read: a source of which requests wait is kept, as behind a visit that
-/// reads.
+/// The same of a connection that may be written: nothing is read, and an observer is told why the
+/// relay ends it, where it does. A monitor is visited again, which writes.
+#[tactic(auto, using(crate::proofs::Keeping::visits))]
+pub(crate) fn write_at<W: Observer>(
+    connections: &mut Connections,
+    ready: Ready,
+    observer: &mut W,
+) -> After
+    ensures visited { IsVisited ready.key
+        (connection_at connections.old) (connection_at connections.new) }
+    ensures keeps { KeepsAt ready.key (connection_at connections.old) result }
+{
+    match connections.at(ready.key) {
+        None => After::Rests,
+        Some(connection) => write_peer(connection, ready.to_end, observer),
+    }
+}
+
+/// The same, where the connection is at hand.
+fn write_peer<W: Observer>(connection: &mut Peer, is_closing: bool, observer: &mut W) -> After
+    ensures stands { (source : PeerShown) → connection.old ≡ Source source
+        → IsWith source connection.new }
+    ensures keeps { (source : PeerShown) → connection.old ≡ Source source
+        → waits_unasked source ≡ true → result ≢ After.Goes }
+{
+    match connection {
+        Peer::Source(source) => {
+            let _ = tell_end(source, observer);
+            write_source(source, is_closing)
+        }
+        Peer::Monitor(_) => After::Again,
+    }
+}
+
+/// The same of a source.
 #[tactic(auto, using(crate::proofs::Keeping::writes_keep, crate::proofs::Keeping::stays_waiting))]
-pub(crate) fn write_source(source: &mut SourcePeer, is_closing: bool) -> After
+fn write_source(source: &mut SourcePeer, is_closing: bool) -> After
     ensures waiting { source.new.live.waiting ≡ source.old.live.waiting }
     ensures keeps { waits_unasked source.old ≡ true → result ≢ After.Goes }
 {
