@@ -9,6 +9,7 @@ pub mod Accepting
 pub mod Gathering
 pub mod Unsent
 pub mod Carrying
+pub mod Alone
 pub mod Firsts
 pub mod Judging
 pub mod Silence

@@ -6,6 +6,7 @@ ghost use Rattle.std.specs.Prelude.{
   ◌≤◌,
   ◌<◌,
   Some,
+  All,
   Ok,
   true,
   false,
@@ -227,11 +228,13 @@ impl Session {
     }
 
     /// The first of the bytes that wait to be sent, as far as they lie in one piece: none only
-    /// where none waits, and all of them until the handshake is done.
+    /// where none waits, and all of them until the handshake is done, and wherever no frame waits.
     pub fn out(&self) -> &[u8]
         ensures front { result.now ≡ take (length result.now) self.now.waiting }
         ensures some { 0 < length self.now.waiting → 0 < length result.now }
         ensures whole { is_done self.now.handshake ≡ false → result.now ≡ self.now.waiting }
+        ensures greeting { All (λ l. l.left ≡ 0) self.now.carried
+            → result.now ≡ self.now.waiting }
     {
         let greeting = self.greeting.as_slice();
         if greeting.is_empty() {
