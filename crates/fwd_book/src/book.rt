@@ -417,7 +417,17 @@ impl Book {
         ensures other { result ≡ false → request_at self.now.live.requests origin
             ≢ Some (entered_as batch.now origin spans.now) }
     {
-        match self.requests.get_at(NO_SLOT, origin) {
+        self.shows_at(NO_SLOT, origin, batch, spans)
+    }
+
+    /// The same, where the request may stand in this slot: it is found there without a search.
+    pub fn shows_at(&self, slot: usize, origin: Origin, batch: &Batch, spans: &[Span]) -> bool
+        ensures shown { result ≡ true → request_at self.now.live.requests origin
+            ≡ Some (entered_as batch.now origin spans.now) }
+        ensures other { result ≡ false → request_at self.now.live.requests origin
+            ≢ Some (entered_as batch.now origin spans.now) }
+    {
+        match self.requests.get_at(slot, origin) {
             None => false,
             Some(kept) => kept.is_of(batch, spans),
         }

@@ -40,7 +40,13 @@ pub(crate) fn shows(state: &OutputState, ticket: &Ticket) -> bool
     ensures shown { result ≡ true → IsShown state.now.book ticket.now }
     ensures other { result ≡ false → ¬ (IsShown state.now.book ticket.now) }
 {
-    is_here(state, ticket) && state.shows(ticket.origin(), ticket.batch(), ticket.spans())
+    is_here(state, ticket)
+        && state.shows_at(
+            ticket.slot(),
+            ticket.origin(),
+            ticket.batch(),
+            ticket.spans(),
+        )
 }
 
 /// The receipt of a ticket that is due. The only error is out of memory.

@@ -300,7 +300,7 @@ impl<A: Tally, S: Tally> Locked<A, S> {
         ensures other { ¬ (IsShown self.old.output.book ticket) → self.new ≡ self.old }
     {
         if shows(&self.state, &ticket) {
-            self.state.forget(&[ticket.origin()]);
+            self.state.leave_at(ticket.slot(), ticket.origin());
         }
         ticket.spend();
     }

@@ -450,6 +450,16 @@ impl OutputState {
         self.book.shows(origin, batch, spans)
     }
 
+    /// The same, where the request may stand in this slot of the book.
+    pub fn shows_at(&self, slot: usize, origin: Origin, batch: &Batch, spans: &[Span]) -> bool
+        ensures shown { result ≡ true → request_at self.now.book.requests origin
+            ≡ Some (entered_as batch.now origin spans.now) }
+        ensures other { result ≡ false → request_at self.now.book.requests origin
+            ≢ Some (entered_as batch.now origin spans.now) }
+    {
+        self.book.shows_at(slot, origin, batch, spans)
+    }
+
     /// The receipt of an origin's request, if it is owed an answer and its entries are all
     /// acknowledged. The only error is out of memory.
     pub fn receipt(&self, alloc: Global, origin: Origin) -> Result<Option<Receipt>, AllocError>

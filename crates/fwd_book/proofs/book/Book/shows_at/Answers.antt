@@ -3,7 +3,7 @@ use Rattle.fwd_book.specs.History.{Entered, entered_as, request_at, is_origin}
 use Rattle.fwd_book.specs.Live.{BookState}
 use Rattle.fwd_book.proofs.Facts.{origin-is}
 use Rattle.fwd_book.proofs.Right.{found_stands}
-use Rattle.fwd_book.proofs.book.Book.shows.Goals as goal
+use Rattle.fwd_book.proofs.book.Book.shows_at.Goals as goal
 
 pub returns-in-Some-clause-shown : goal.returns-in-Some-clause-shown
 returns-in-Some-clause-shown c = λ yes.
