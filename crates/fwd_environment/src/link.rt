@@ -169,6 +169,13 @@ pub trait Gate {
     /// counted from 0. It may wait.
     fn pass<R: Wait>(&mut self, rt: &R, worker: u16, place: Place, turn: u64) -> Pass;
 
+    /// For how long the worker of this number leaves chunks open that are due, where it looks for
+    /// one, in milliseconds: more entries may join them. Where nothing else is said it leaves none
+    /// open.
+    fn leaves_open(&self, _worker: u16) -> u64 {
+        0
+    }
+
     /// The worker of this number tells what its turn came to.
     fn hear<R: Wait>(&mut self, _rt: &R, _worker: u16, _event: WorkerEvent) {}
 

@@ -53,6 +53,8 @@ struct Signal {
     is_awaited: AtomicBool,
     /// It sleeps meanwhile, or is about to: a wake has to reach it.
     is_asleep: AtomicBool,
+    /// It has a chunk that is not acknowledged.
+    has_chunk: AtomicBool,
 }
 
 /// Wakes a worker that looks for a chunk, from another thread.
@@ -66,6 +68,11 @@ impl WorkerWaker {
     /// Whether the worker looks for a chunk, and was not woken since it began to.
     pub fn is_awaited(&self) -> bool {
         self.signal.is_awaited.load(Ordering::SeqCst)
+    }
+
+    /// Whether the worker has a chunk that is not acknowledged.
+    pub fn has_chunk(&self) -> bool {
+        self.signal.has_chunk.load(Ordering::SeqCst)
     }
 
     /// A chunk was closed: a worker that looks for one, or found none since it last began to look,
@@ -154,6 +161,7 @@ impl WorkerWait {
         let signal = Signal {
             is_awaited: AtomicBool::new(false),
             is_asleep: AtomicBool::new(false),
+            has_chunk: AtomicBool::new(false),
         };
         let signal = Arc::new(alloc, signal)?;
         let waker = WorkerWaker {
@@ -288,6 +296,11 @@ impl WorkerWait {
     /// wake may be for a chunk that it does not take.
     pub fn work(&mut self) -> bool {
         self.turn_to(false)
+    }
+
+    /// The worker has a chunk that is not acknowledged from now on, or none.
+    pub fn note_chunk(&mut self, has_chunk: bool) {
+        self.signal.has_chunk.store(has_chunk, Ordering::SeqCst);
     }
 
     /// Whether the worker looks for a chunk.

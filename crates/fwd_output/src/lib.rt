@@ -22,7 +22,7 @@ pub use locked::{Closing, Locked};
 pub use output::OutputState;
 pub use server_order::ServerOrder;
 pub use server_set::ServerSet;
-pub use server_view::{ChunkUse, Look, PickedChunk, ServerView};
+pub use server_view::{ChunkSearch, ChunkUse, Look, PickedChunk, ServerView};
 pub use shared::SharedOutput;
 pub use tally::{Ledgered, Plain, Seat, Tally, open};
 pub use ticket::{Admitted, Ticket};

@@ -25,6 +25,17 @@ pub enum ChunkUse {
     Join(u16),
 }
 
+/// How a worker looks for a free chunk.
+#[derive(Clone, Copy)]
+pub struct ChunkSearch {
+    /// The worker's number.
+    pub worker: u16,
+    /// What it takes one for.
+    pub chunk_use: ChunkUse,
+    /// For how long chunks that are due are left open, in milliseconds: more entries may join them.
+    pub leaves_open: u64,
+}
+
 /// What a worker sees of its output before it takes a chunk.
 #[derive(Clone, Copy)]
 pub struct ServerView {

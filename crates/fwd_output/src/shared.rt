@@ -28,7 +28,7 @@ ghost use Rattle.fwd_output.specs.Seats.{parts_of, counts_of};
 ghost use Rattle.fwd_output.specs.Tickets.{AreGiven, IsRight, ticket_of};
 
 use crate::locked::{Closing, Locked};
-use crate::server_view::{ChunkUse, Look, PickedChunk, ServerView};
+use crate::server_view::{ChunkSearch, Look, PickedChunk, ServerView};
 use crate::tally::{Ledgered, Seat, Tally};
 use crate::ticket::Ticket;
 use fwd_book::{AdmitRefusal, Receipt};
@@ -178,24 +178,21 @@ impl<A: Tally, S: Tally> SharedOutput<A, S> {
         self.lock.lock(rt).pick(alloc, seat, worker, now)
     }
 
-    /// What a worker sees at a moment (milliseconds); and where it may take a chunk for this use,
-    /// the open chunks are closed that are due, and it is given the free chunk of the least number,
-    /// if there is one. The only error is out of memory.
+    /// What a worker sees at a moment (milliseconds); and where it may take a chunk for its use, the
+    /// open chunks are closed that are due and not left open, and it is given the free chunk of the
+    /// least number, if there is one. The only error is out of memory.
     pub fn look_for<R: Wait>(
         &self,
         rt: &R,
         alloc: Global,
         seat: &mut S::Seat,
-        worker: u16,
-        chunk_use: ChunkUse,
+        search: ChunkSearch,
         now: u64,
     ) -> Look
-        ensures leaves { may_take result.view chunk_use ≡ false → result.picked ≡ Ok None }
+        ensures leaves { may_take result.view search.chunk_use ≡ false → result.picked ≡ Ok None }
         ensures same { seat.new ≡ seat.old }
     {
-        self.lock
-            .lock(rt)
-            .look_for(alloc, seat, worker, chunk_use, now)
+        self.lock.lock(rt).look_for(alloc, seat, search, now)
     }
 
     /// What a worker sees at a moment (milliseconds) before it takes a chunk.

@@ -37,6 +37,9 @@ struct WorkerGate<'a> {
     output: &'a Output,
     wait: &'a SharedWait,
     backoff: Backoff,
+    /// How many chunks it loaded that were not settled, as far as it was told: fewer where it has
+    /// found none for a while.
+    loaded: u32,
     /// Why the server that is lost in this turn does not let it in, as that says.
     denial: Option<Denial>,
 }
@@ -52,6 +55,7 @@ impl<'a> WorkerGate<'a> {
             }
             Place::BeforeLoad => {
                 self.work(rt);
+                self.note_loaded(rt, self.loaded.saturating_add(1));
                 self.assure(rt, place);
             }
             Place::BeforeSettle | Place::AfterSettle => self.work(rt),
@@ -88,14 +92,31 @@ impl<'a> WorkerGate<'a> {
         self.backoff = if was_woken {
             Backoff::Soon
         } else {
+            self.note_loaded(rt, 0);
             Backoff::Later(mode.waited())
         };
     }
 
-    /// A worker that tried a server in vain was at work: it looks for another one soon.
-    fn note(&mut self, event: WorkerEvent) {
-        if let (WorkerEvent::Lost { .. }, Backoff::Later(_)) = (event, self.backoff) {
-            self.backoff = Backoff::Later(0);
+    /// It has loaded so many chunks that are not settled. The others see whether it has any.
+    fn note_loaded<R: Wait>(&mut self, rt: &R, loaded: u32) {
+        if (self.loaded == 0) != (loaded == 0) {
+            self.wait.lock(rt).note_chunk(loaded > 0);
+        }
+        self.loaded = loaded;
+    }
+
+    /// What becomes of the worker's wait and of its chunks behind what it tells. One that tried a
+    /// server in vain was at work: it looks for another one soon.
+    fn note<R: Wait>(&mut self, rt: &R, event: WorkerEvent) {
+        match event {
+            WorkerEvent::Settled { .. } => self.note_loaded(rt, self.loaded.saturating_sub(1)),
+            WorkerEvent::Lost { .. } => {
+                self.note_loaded(rt, 0);
+                if let Backoff::Later(_) = self.backoff {
+                    self.backoff = Backoff::Later(0);
+                }
+            }
+            WorkerEvent::Went { .. } => {}
         }
     }
 
@@ -120,6 +141,10 @@ impl<'a> Gate for WorkerGate<'a> {
         }
     }
 
+    fn leaves_open(&self, _worker: u16) -> u64 {
+        self.output.leaves_open()
+    }
+
     fn hear<R: Wait>(&mut self, rt: &R, worker: u16, event: WorkerEvent) {
         let notice = WorkerNotice {
             output: self.number,
@@ -131,7 +156,7 @@ impl<'a> Gate for WorkerGate<'a> {
             None => mailbox.tell(rt, notice),
             Some(denial) => mailbox.tell_denied(rt, notice, denial),
         }
-        self.note(event);
+        self.note(rt, event);
         if let WorkerEvent::Settled { .. } = event {
             for (reader, inbox) in (1..usize::MAX).zip(&self.inboxes.others) {
                 if self.output.subscribers.hears(reader) {
@@ -191,6 +216,7 @@ impl<'a, N: Net> Workplace<'a, N> {
             output,
             wait,
             backoff: Backoff::Later(0),
+            loaded: 0,
             denial: None,
         };
         Some(Workplace { gate, hub })

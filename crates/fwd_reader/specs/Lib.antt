@@ -7,7 +7,7 @@
 -- place to a new one; Lateness, which connection had its time; Ages, how old something is;
 -- Entering, who may enter an output; Owing, what outputs owe; Answering, what they answer, and owe
 -- no more; Routers, what is seen of a router; Queues, which connections are ready, may be written,
--- or wait. OpenConnections, Lending and Turning only describe the code.
+-- or wait. OpenConnections, Lending, Turning and Waiting only describe the code.
 pub mod Ends
 pub mod Admissions
 pub mod Stores
@@ -27,4 +27,5 @@ pub mod Rounds
 pub mod Owing
 pub mod Answering
 pub mod Queues
+pub mod Waiting
 pub mod Lending

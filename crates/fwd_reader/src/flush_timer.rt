@@ -10,7 +10,9 @@ ghost use Rattle.std.specs.Prelude.{
   true,
   false,
   is_some,
+  max,
   min,
+  option_map,
   IfSome,
 };
 
@@ -92,6 +94,18 @@ impl FlushTimer {
             None
         } else {
             Some(last.min(now.saturating_add(STEP)))
+        };
+    }
+
+    /// What is due at this moment is left open for a while: no flush is due before the next moment.
+    pub(crate) fn wait_on(&mut self, now: u64)
+        ensures { self.new ≡ record self.old {
+          due = option_map (λ due. max due (min (now + 1) (2 ^ 64 - 1))) self.old.due;
+        } }
+    {
+        self.due = match self.due {
+            None => None,
+            Some(due) => Some(due.max(now.saturating_add(1))),
         };
     }
 

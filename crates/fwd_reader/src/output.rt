@@ -1,6 +1,6 @@
 //! The outputs, as threads share them.
 
-ghost use Rattle.std.specs.Prelude.{◌≡◌, ℕ, length, map, IfOk};
+ghost use Rattle.std.specs.Prelude.{◌≡◌, ◌≤◌, ℕ, length, map, IfOk};
 ghost use Rattle.fwd_peers.specs.Peers as peers;
 ghost use Rattle.fwd_reader.specs.Ages.{age_at};
 ghost use Rattle.fwd_reader.specs.Ends.{AddUp};
@@ -16,6 +16,11 @@ use fwd_peers::CloseReason;
 use std::alloc::{AllocError, Global};
 use std::net::SocketAddr;
 use std::sync::Wait;
+
+/// How long chunks that are due are left open for more entries while one of the output's workers
+/// has a chunk that is not acknowledged, in milliseconds. Once that one is settled they are taken
+/// at once. Many small chunks side by side cost more than they bring.
+const GATHERING: u64 = 1;
 
 /// An output that threads share, where its servers are reached, and what wakes its workers.
 #[derive(Drop)]
@@ -60,6 +65,18 @@ impl Output {
     /// Whether one of the output's workers looks for a chunk.
     pub(crate) fn is_awaited(&self) -> bool {
         self.wakers.iter().any(|waker| waker.is_awaited())
+    }
+
+    /// For how long chunks that are due are left open where a worker looks for one, in
+    /// milliseconds: `GATHERING` while a worker has one that is not acknowledged.
+    pub fn leaves_open(&self) -> u64
+        ensures { result ≤ GATHERING }
+    {
+        if self.wakers.iter().any(|waker| waker.has_chunk()) {
+            GATHERING
+        } else {
+            0
+        }
     }
 
     /// Wakes the output's workers that look for a chunk, one for each of so many chunks.

@@ -155,24 +155,39 @@ impl<'a> OutputRoute<'a> {
 
     /// Closes the chunks that are due at a moment (milliseconds) after all admissions, and wakes a
     /// worker for each. Where no worker looks for a chunk, what is due is left open for more
-    /// entries: the next worker to look closes it. Where it is urgent, since sources wait for room
-    /// or the relay drains, all chunks are due: only what is sent makes room.
+    /// entries: the next worker to look closes it. Where one looks and another chunk is under way,
+    /// it is left open a little longer. Where it is urgent, since sources wait for room or the relay
+    /// drains, all chunks are due: only what is sent makes room.
     pub fn flush<R: Wait>(&mut self, rt: &R, now: u64, is_urgent: bool)
         ensures { self.new.open_tickets ≡ self.old.open_tickets }
     {
+        let moment = now.saturating_sub(self.left_open(is_urgent));
         self.timer.look(now);
-        let is_due = self.timer.due().is_some_and(|due| due <= now);
+        let is_due = self.timer.due().is_some_and(|due| due <= moment);
         if is_due {
-            self.timer.flushed(now);
+            self.timer.flushed(moment);
+        }
+        if moment < now {
+            self.timer.wait_on(now);
         }
         if !is_due && !is_urgent {
             return;
         }
         if self.output.is_awaited() {
-            let count = self.output.shared.flush(rt, now, kind_of(is_urgent));
+            let count = self.output.shared.flush(rt, moment, kind_of(is_urgent));
             self.output.wake(count);
         } else if is_urgent {
             self.timer.hasten(now);
+        }
+    }
+
+    /// For how long what is due is left open, in milliseconds: not at all where no worker looks for
+    /// it, which then closes it before it takes it.
+    fn left_open(&self, is_urgent: bool) -> u64 {
+        if is_urgent || !self.output.is_awaited() {
+            0
+        } else {
+            self.output.leaves_open()
         }
     }
 

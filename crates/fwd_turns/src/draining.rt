@@ -13,7 +13,8 @@
 //!        Stays ──> Reads ──> Settles ──> Leaves ──> gone
 //!
 //!    - `Reads`: it is read until a read finds nothing more, or `MOST` bytes: more than the system
-//!      holds for a connection. So what it had sent is taken also where it never asks.
+//!      holds for a connection. What its own system still holds back then, since this one has not
+//!      acknowledged the bytes before yet, is taken in `Leaves` where it never asks.
 //!    - `Settles`: it is read no more. What waits for room is admitted as ever, and it is told of
 //!      what is settled. What it sends now was never acknowledged.
 //!    - `Leaves`: it is owed nothing, and was told by the end of the relay's stream that no more

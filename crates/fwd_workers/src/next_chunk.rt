@@ -16,7 +16,7 @@ ghost use Rattle.fwd_workers.specs.Choosing.{is_better};
 use crate::choosing::{Choice, choose};
 use crate::turn_context::TurnContext;
 use crate::upstream_end::give_back;
-use fwd_output::{ChunkUse, Leaving, Look, PickedChunk, ServerView, Tally};
+use fwd_output::{ChunkSearch, ChunkUse, Leaving, Look, PickedChunk, ServerView, Tally};
 use std::alloc::Global;
 use std::sync::Wait;
 
@@ -78,9 +78,14 @@ pub(crate) fn look_for<A: Tally, S: Tally, R: Wait>(
     ensures may { IfSome result (λ found. may_take found.view chunk_use ≡ true) }
     ensures same { seat.new ≡ seat.old }
 {
+    let search = ChunkSearch {
+        worker,
+        chunk_use,
+        leaves_open: context.leaves_open,
+    };
     let Look { view, picked } = context
         .out
-        .look_for(context.rt, alloc, seat, worker, chunk_use, context.now);
+        .look_for(context.rt, alloc, seat, search, context.now);
     match picked {
         Ok(Some(picked)) => Some(Found { view, picked }),
         Ok(None) | Err(_) => None,

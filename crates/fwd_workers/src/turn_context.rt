@@ -4,11 +4,13 @@ use fwd_environment::{Clock, Hub};
 use fwd_output::{SharedOutput, Tally};
 use std::sync::Wait;
 
-/// What a worker's turn has at hand: the runtime, the output, and the moment (milliseconds).
+/// What a worker's turn has at hand: the runtime, the output, the moment, and for how long chunks
+/// are left open that are due (both in milliseconds).
 pub(crate) struct TurnContext<'a, A: Tally, S: Tally, R: Wait> {
     pub(crate) rt: &'a R,
     pub(crate) out: &'a SharedOutput<A, S>,
     pub(crate) now: u64,
+    pub(crate) leaves_open: u64,
 }
 
 impl<'a, A: Tally, S: Tally, R: Wait> Drop for TurnContext<'a, A, S, R> {
@@ -17,6 +19,7 @@ impl<'a, A: Tally, S: Tally, R: Wait> Drop for TurnContext<'a, A, S, R> {
             rt: _,
             out: _,
             now: _,
+            leaves_open: _,
         } = self;
     }
 }

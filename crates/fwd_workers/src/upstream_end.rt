@@ -91,6 +91,7 @@ pub(crate) fn give_back_now<A: Tally, S: Tally, C: Clock, R: Wait>(
         rt: context.rt,
         out: context.out,
         now: clock.now(),
+        leaves_open: context.leaves_open,
     };
     give_back(&context, seat, leaving);
 }

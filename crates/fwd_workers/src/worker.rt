@@ -115,7 +115,13 @@ impl Worker {
                 Some(place) => gate.pass(rt, self.number, place, turn),
             };
             let now = clock.now();
-            let context = TurnContext { rt, out, now };
+            let leaves_open = gate.leaves_open(self.number);
+            let context = TurnContext {
+                rt,
+                out,
+                now,
+                leaves_open,
+            };
             match pass {
                 Pass::Go => {
                     let mut outside = Outside {
@@ -133,7 +139,13 @@ impl Worker {
             }
         }
         let now = clock.now();
-        finish(&TurnContext { rt, out, now }, &mut seat, state);
+        let context = TurnContext {
+            rt,
+            out,
+            now,
+            leaves_open: 0,
+        };
+        finish(&context, &mut seat, state);
         (seat, WorkerEnd::TurnsSpent)
     }
 

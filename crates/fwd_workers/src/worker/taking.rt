@@ -35,8 +35,9 @@ use std::sync::Wait;
 impl Worker {
     /// The next chunk, if there is one; where a server is to be tried that is not known to work,
     /// one that was not lost before, if there is one. Only now are chunks closed that are due, so
-    /// that entries go on joining them while all workers are at work. That it flushes what is due,
-    /// and takes for this worker, no clause can see through the lock: it is tested.
+    /// that entries go on joining them while all workers are at work, and none that is left open a
+    /// little longer. That it flushes what is due, and takes for this worker, no clause can see
+    /// through the lock: it is tested.
     pub(super) fn next_chunk<A: Tally, S: Tally, R: Wait>(
         &self,
         context: &TurnContext<'_, A, S, R>,
@@ -45,7 +46,8 @@ impl Worker {
     ) -> Option<PickedChunk>
         ensures { seat.new ≡ seat.old }
     {
-        context.out.flush(context.rt, context.now, FlushKind::Due);
+        let moment = context.now.saturating_sub(context.leaves_open);
+        context.out.flush(context.rt, moment, FlushKind::Due);
         if is_doubted {
             fresh(context, self.alloc, seat, self.number, AHEAD)
         } else {
