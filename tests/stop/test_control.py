@@ -1,5 +1,6 @@
 """The control socket: who is there, what is said there, and where it cannot be."""
 
+import contextlib
 import os
 import pathlib
 import socket
@@ -164,6 +165,15 @@ def test_the_time_of_the_settings(stoppable):
     assert time.monotonic() - began < 20
 
 
+def all_of(terminal):
+    """All that was written to a terminal whose other side is closed."""
+    told = b""
+    with contextlib.suppress(OSError), open(terminal, "rb", buffering=0) as side:  # reads fail once nothing is left
+        while piece := side.read(4096):
+            told += piece
+    return told.decode()
+
+
 def test_a_terminal(stoppable):
     """On a terminal each answer takes the place of the one before."""
     one = stoppable([{"servers": free_ports(1)}])
@@ -175,7 +185,6 @@ def test_a_terminal(stoppable):
     )
     assert answer_of(asking).status == LEFT
     os.close(theirs)
-    told = os.read(ours, 4096).decode()
-    os.close(ours)
+    told = all_of(ours)
     assert told.count("\n") == 1 and told.count("\r\x1b[Kheld 1 entries") >= 2
     assert told.endswith("\r\x1b[Kleft 1 entries\r\n")

@@ -1,8 +1,11 @@
 """A relay that is asked to stop delivers what it holds, and tells who asked."""
 
+import fcntl
 import pathlib
 import select
 import socket
+import struct
+import termios
 import time
 
 import pytest
@@ -37,6 +40,16 @@ def told_to_the_end(source):
             told.append(source.told())
         except (ConnectionError, EOFError):
             return told
+
+
+def is_with_relay(source):
+    """Whether all that a source sent lies at the relay's end: its own system holds none of it back.
+
+    A sender's system sends the first ten pieces, or with Nagle's rule the first one, and the others once the receiver's has
+    acknowledged those. That may take the receiver's 40 ms, where the relay reads nothing.
+    """
+    (held,) = struct.unpack("i", fcntl.ioctl(source.stream.link, termios.TIOCOUTQ, bytes(4)))
+    return held == 0
 
 
 def is_open(source):
@@ -242,7 +255,30 @@ def test_a_standby_takes_over(stoppable, next_hop):
 
 @both
 def test_a_full_output_that_waits(stoppable, next_hop, readers):
-    """Requests that wait for room come too: all of a source that never asks. One that asks is told of what came, and no more."""
+    """Requests that wait for room, of sources that ask and of others, come too."""
+    one, hop, sources = full_and_waiting(stoppable, next_hop)
+    one.until(lambda: all(map(is_with_relay, sources)), "a source's system holds bytes back")
+    assert one.stop(120).status == 0
+    assert [number for number in numbers(hop) if number >= 0] == list(range(400))
+    for source in sources[1::2]:
+        assert told_to_the_end(source) == [str(number) for number in range(100)]
+
+
+@both
+def test_what_a_sender_holds_back(stoppable, next_hop, readers):
+    """A source's system may hold back some of what it sent, where the relay finds no more. All of a source that never asks comes. One
+    that asks is told of what came and of no more: it sends the rest again."""
+    one, hop, sources = full_and_waiting(stoppable, next_hop)
+    assert one.stop(120).status == 0
+    got = {number for number in numbers(hop) if number >= 0}
+    for place, source in enumerate(sources):
+        told = told_to_the_end(source) if place % 2 else [str(number) for number in range(100)]
+        assert told and told == [str(number) for number in range(len(told))]
+        assert {number - 100 * place for number in got if number // 100 == place} == set(range(len(told)))
+
+
+def full_and_waiting(stoppable, next_hop):
+    """A relay whose output is full, with its server and four sources that sent a hundred requests each. Each second one asks."""
     hop = next_hop(answer=later(0.01))
     keys = {"full": "wait", "total_limit": 2_000, "chunk_limit": 500, "flush_interval": DAY}
     one = stoppable([{"servers": [hop.port]} | keys])
@@ -252,13 +288,7 @@ def test_a_full_output_that_waits(stoppable, next_hop, readers):
             chunk = str(number) if place % 2 else None
             source.send(entries=numbered(1, 100 * place + number) + [(1, {"n": -1, "s": "x" * 50})], chunk=chunk)
     one.await_line("output 0 full")
-    assert one.stop(120).status == 0
-    got = {number for number in numbers(hop) if number >= 0}
-    for place, source in enumerate(sources):
-        # Of a source that asks not all that it sent is always taken. What it is not told of it sends again.
-        told = told_to_the_end(source) if place % 2 else [str(number) for number in range(100)]
-        assert told and told == [str(number) for number in range(len(told))]
-        assert {number - 100 * place for number in got if number // 100 == place} == set(range(len(told)))
+    return one, hop, sources
 
 
 @both

@@ -26,9 +26,9 @@ FUTEX = "202"  # the number of the call in which a thread waits for a lock
 def drowsy(relay, shim, tmp_path):
     """Starts a relay to servers at ports whose threads sleep for two minutes, where it looked for 100 ms; and its board."""
 
-    def start(*ports):
+    def start(*ports, **keys):
         board = Board(tmp_path / "board")
-        outputs = [{"match": f"{number}.**", "servers": [port]} for number, port in enumerate(ports)]
+        outputs = [{"match": f"{number}.**", "servers": [port]} | keys for number, port in enumerate(ports)]
         one = relay(outputs, environment=environment(shim, fail_board=board.path))
         board.set("sleeps", 120_000)
         return one, board
@@ -69,6 +69,17 @@ def test_a_reader_that_loses_its_core(drowsy, next_hop, readers):
     board.set("pause", 50_000)
     for source in sources * 3:
         source.ask("0.app")
+
+
+@pytest.mark.quick
+def test_chunks_that_are_full(drowsy, next_hop, readers):
+    """A chunk that is closed since the next entry does not fit wakes a worker, though no flush is due for a day."""
+    hop = next_hop()
+    one, _ = drowsy(hop.port, flush_interval=86_400_000, chunk_limit=1_000)
+    source = one.source(timeout=60)
+    for number in range(3):
+        source.send(tag="0.app", entries=[(1, {"n": number, "s": "x" * 600})])
+    hop.await_entries(2)
 
 
 class Stops:
