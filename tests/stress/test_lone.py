@@ -77,6 +77,7 @@ def test_chunks_that_are_full(drowsy, next_hop, readers):
     hop = next_hop()
     one, _ = drowsy(hop.port, flush_interval=86_400_000, chunk_limit=1_000)
     source = one.source(timeout=60)
+    time.sleep(0.5)  # by then the worker sleeps its two minutes
     for number in range(3):
         source.send(tag="0.app", entries=[(1, {"n": number, "s": "x" * 600})])
     hop.await_entries(2)
