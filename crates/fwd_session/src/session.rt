@@ -236,6 +236,17 @@ impl Session {
         ensures greeting { All (λ l. l.left ≡ 0) self.now.carried
             → result.now ≡ self.now.waiting }
     {
+        self.first_piece()
+    }
+
+    /// The bytes of `out`: the greeting's, or the first frame's where no greeting waits.
+    fn first_piece(&self) -> &[u8]
+        ensures front { result.now ≡ take (length result.now) self.now.waiting }
+        ensures some { 0 < length self.now.waiting → 0 < length result.now }
+        ensures whole { is_done self.now.handshake ≡ false → result.now ≡ self.now.waiting }
+        ensures greeting { All (λ l. l.left ≡ 0) self.now.carried
+            → result.now ≡ self.now.waiting }
+    {
         let greeting = self.greeting.as_slice();
         if greeting.is_empty() {
             self.frames.front()

@@ -3,7 +3,7 @@ use Rattle.std.specs.Prelude.{All}
 use Rattle.std.specs.List.{concat}
 use Rattle.fwd_session.specs.Live.{LiveSession}
 use Rattle.fwd_session.proofs.Alone.{HasLeft, no_frame, no_bytes, take_none}
-use Rattle.fwd_session.proofs.session.Session.out.Goals as goal
+use Rattle.fwd_session.proofs.session.Session.first_piece.Goals as goal
 
 pub returns-then-is_empty-clause-greeting : goal.returns-then-is_empty-clause-greeting
 returns-then-is_empty-clause-greeting c none =
