@@ -1,4 +1,5 @@
 mod Examples
+pub mod Broken
 pub mod Lists
 pub mod Saying
 pub mod Following

@@ -3,7 +3,8 @@
 use Rattle.std.specs.Prelude.{◌≡◌, ℕ, Bool, false, List, [], ◌∷◌, ◌++◌, drop, length, find, Option, Some, None, is_some, if◌then◌else◌}
 use Rattle.std.specs.List.{list_any}
 use Rattle.std.specs.Str.{bytes_eq}
-use Rattle.fwd_msgpack.specs.Scans.{Split, split_of, values_of, is_nil}
+use Rattle.fwd_msgpack.specs.declared.fault.ScanFault.{ScanFault}
+use Rattle.fwd_msgpack.specs.Scans.{Bad, Split, first_of, split_of, values_of, is_nil}
 use Rattle.fwd_msgpack.specs.Scans.Split.{Open, Broken}
 use Rattle.fwd_modes.specs.Acks.{ack_name}
 use Rattle.fwd_handshake.specs.declared.credentials.Login.{Login}
@@ -176,6 +177,11 @@ said_in login salt at awaited (Broken values broken) =
 -- a server's bytes as a stream of replies within the limits
 unfoldable pub reply_stream : List ℕ → Split
 reply_stream bytes = split_of REPLY_LIMIT REPLY_NESTING bytes
+
+-- the first value of a server's bytes is none of MessagePack within the limits
+pub record BeginsBroken (bytes : List ℕ) : Type 0 where
+  pub fault : ScanFault
+  pub bad : first_of REPLY_LIMIT REPLY_NESTING bytes ≡ Bad fault
 
 -- a stream behind its first n values
 abbrev pub behind : ℕ → Split → Split

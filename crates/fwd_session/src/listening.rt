@@ -31,7 +31,7 @@ ghost use Rattle.fwd_session.specs.Hearing.{
 };
 ghost use Rattle.fwd_chunks.specs.History.{CarriedChunk};
 ghost use Rattle.fwd_session.specs.Flights.{live_pending};
-ghost use Rattle.fwd_session.specs.Said.{AsksForNothing, left_by, accepted_by, out_of, reply_stream, rest_of};
+ghost use Rattle.fwd_session.specs.Said.{AsksForNothing, BeginsBroken, left_by, accepted_by, out_of, reply_stream, rest_of};
 ghost use Rattle.fwd_session.specs.History.{is_done, told_of};
 ghost use Rattle.fwd_session.specs.Live.{
   falls_with,
@@ -48,10 +48,12 @@ ghost use Rattle.fwd_session.specs.Live.{
 use crate::fault::SessionFault;
 use crate::handshake::Handshake;
 use crate::hearing::{Ack, Hearing, Peer, hear};
+use crate::limits::REPLY_LIMITS;
 use crate::session::Session;
 use crate::told::{SessionHeard, SessionTold};
 use crate::unacked::Unacked;
 use fwd_base::Bytes;
+use fwd_msgpack::{Fed, Scanner};
 use std::alloc::{AllocError, Global};
 
 /// What is told of what was heard, where the handshake was this far before it.
@@ -67,6 +69,19 @@ fn told_of(before: &Handshake, hearing: &Hearing<'_>) -> SessionHeard
     match &hearing.handshake {
         Some(next) if next.is_done() && !before.is_done() => SessionHeard::Ready,
         _ => SessionHeard::Quiet,
+    }
+}
+
+/// Whether the first value of some bytes, with others behind them, is none within the limits.
+fn begins_broken(front: &[u8], behind: &[u8]) -> bool
+    ensures broken { result ≡ true → BeginsBroken (front.now ++ behind.now) }
+    ensures sound { BeginsBroken (front.now ++ behind.now) → result ≡ true }
+{
+    let mut scanner = Scanner::new(REPLY_LIMITS);
+    match scanner.feed(front) {
+        Fed::More => matches!(scanner.feed(behind), Fed::Bad(_)),
+        Fed::End(_) => false,
+        Fed::Bad(_) => true,
     }
 }
 
@@ -219,14 +234,54 @@ impl Session {
         }
     }
 
+    /// Bytes come behind those of an unfinished value. On an error nothing has changed.
+    fn hears_behind(&mut self, alloc: Global, bytes: &[u8]) -> Result<SessionTold, AllocError>
+        requires up { self.old.down ≡ false }
+        ensures heard { IfOk result (λ told. told.heard ≡ live_piece_told self.old bytes.now) }
+        ensures out { IfOk result (λ told. told.out ≡ live_piece_out self.old bytes.now) }
+        ensures next { OnOk result (self.new ≡ session_hears self.old bytes.now) }
+        ensures broken { BeginsBroken (self.old.rest ++ bytes.now) → IsOk result }
+        ensures err { OnErr result (self.new ≡ self.old) }
+    {
+        let Ok(all) = self.joined(alloc, bytes) else {
+            return self.hears_a_fault(alloc, bytes);
+        };
+        let hearing = self.hears(alloc, &all)?;
+        self.take_in(alloc, hearing)
+    }
+
+    /// Bytes come for which there is no memory. A fault in the unfinished value that they go on
+    /// with needs none. On an error nothing has changed.
+    fn hears_a_fault(&mut self, alloc: Global, bytes: &[u8]) -> Result<SessionTold, AllocError>
+        requires up { self.old.down ≡ false }
+        ensures heard { IfOk result (λ told. told.heard ≡ live_piece_told self.old bytes.now) }
+        ensures out { IfOk result (λ told. told.out ≡ live_piece_out self.old bytes.now) }
+        ensures next { OnOk result (self.new ≡ session_hears self.old bytes.now) }
+        ensures broken { BeginsBroken (self.old.rest ++ bytes.now) → IsOk result }
+        ensures err { OnErr result (self.new ≡ self.old) }
+    {
+        if !begins_broken(self.rest(), bytes) {
+            return Err(AllocError);
+        }
+        self.fall();
+        Ok(SessionTold {
+            heard: SessionHeard::Fault(SessionFault::BadReply),
+            out: Bytes::new(alloc),
+        })
+    }
+
     /// Bytes are read from the link. Once the session is down each further piece is refused. The
-    /// only error is out of memory, and then nothing has changed.
+    /// only error is out of memory, and then nothing has changed. A fault of MessagePack in the
+    /// value that was unfinished, or in the first one of the piece, is never answered as out of
+    /// memory; nor is any other where nothing was unfinished, and nothing before it is
+    /// acknowledged or to be answered.
     pub fn heard(&mut self, alloc: Global, bytes: &[u8]) -> Result<SessionTold, AllocError>
         ensures heard { IfOk result (λ told. told.heard ≡ live_piece_told self.old bytes.now) }
         ensures out { IfOk result (λ told. told.out ≡ live_piece_out self.old bytes.now) }
         ensures next { OnOk result (self.new ≡ session_hears self.old bytes.now) }
         ensures room { live_room self.new ≡ live_room self.old }
         ensures down { self.old.down ≡ true → IsOk result }
+        ensures broken { BeginsBroken (self.old.rest ++ bytes.now) → IsOk result }
         // Where a fault asks for nothing, it is told.
         ensures fault { is_done self.old.handshake ≡ true → self.old.rest ≡ [] →
             (live_says self.old bytes.now).fault ≢ None →
@@ -245,8 +300,6 @@ impl Session {
             let hearing = self.hears(alloc, bytes)?;
             return self.take_in(alloc, hearing);
         }
-        let all = self.joined(alloc, bytes)?;
-        let hearing = self.hears(alloc, &all)?;
-        self.take_in(alloc, hearing)
+        self.hears_behind(alloc, bytes)
     }
 }
