@@ -21,9 +21,10 @@ use Rattle.std.specs.Prelude.{
 }
 use Rattle.fwd_msgpack.specs.Scans.{Bad, first_of}
 use Rattle.fwd_msgpack.specs.declared.fault.ScanFault.{ScanFault}
+use Rattle.fwd_source.specs.Asked.{IsRefused}
 use Rattle.fwd_source.specs.Live.{LiveSource}
 use Rattle.fwd_session.specs.Live.{LiveSession, live_says}
-use Rattle.fwd_session.specs.Said.{AsksForNothing}
+use Rattle.fwd_session.specs.Said.{AsksForNothing, BeginsBroken}
 use Rattle.fwd_model.specs.Layers.{Worker}
 use Rattle.fwd_model.specs.declared.event.Event.{Event}
 use Rattle.fwd_model.specs.declared.event.Event.TheVariants.{
@@ -97,21 +98,37 @@ is_free_at r e = is_free (answer_of (step lives r e))
 
 -- ---- faults that are told however little memory is left
 
--- a piece of a connection is at fault at its front: the value that is unfinished, with what comes
--- of it, or else the first one of the piece, is none of MessagePack within the limits
+-- the value that is unfinished at a source, with what comes of it, or else the first one of the
+-- piece, is none of MessagePack within the limits
+pub record IsBroken (s : LiveSource) (bytes : List ℕ) : Type 0 where
+  pub fault : ScanFault
+  pub bad : first_of s.setup.limits.bytes s.setup.limits.depth (s.rest ++ bytes) ≡ Bad fault
+
+-- No value is unfinished at a source and no PING is awaited, and the first value of the piece is no
+-- request, by its shape, tag, option or compression.
+pub record IsNoRequest (s : LiveSource) (bytes : List ℕ) : Type 0 where
+  pub logged_in : s.awaits ≡ false
+  pub none_unfinished : s.rest ≡ []
+  pub refused : IsRefused s.setup.limits bytes
+
+-- a piece of a connection is at fault at its front, in one way or the other
 pub record IsBadPiece (r : LiveRelay) (id : ℕ) (bytes : List ℕ) : Type 0 where
   pub source : LiveSource
   pub stands : live_source_at id r.connections ≡ Some source
-  pub fault : ScanFault
-  pub bad : first_of source.setup.limits.bytes source.setup.limits.depth (source.rest ++ bytes)
-      ≡ Bad fault
+  pub bad : IsBroken source bytes ⊎ IsNoRequest source bytes
 
--- what a session hears is at fault, and asks for nothing before that: nothing is to be sent for it,
--- as never once the handshake is done, and no chunk is acknowledged; and no value is unfinished
-pub record IsBadReply (s : LiveSession) (bytes : List ℕ) : Type 0 where
+-- No value is unfinished at a session, and what it hears is at fault, and asks for nothing before
+-- that: nothing is to be sent for it, as never once the handshake is done, and no chunk is
+-- acknowledged.
+pub record IsQuietFault (s : LiveSession) (bytes : List ℕ) : Type 0 where
   pub none_unfinished : s.rest ≡ []
   pub faulty : (live_says s bytes).fault ≢ None
   pub nothing : AsksForNothing (live_says s bytes)
+
+-- what a session hears is at fault: so, or in the value that is unfinished, with what comes of it,
+-- or else the first one, which is none of MessagePack within the limits
+abbrev pub IsBadReply : LiveSession → List ℕ → Type 0
+IsBadReply s bytes = BeginsBroken (s.rest ++ bytes) ⊎ IsQuietFault s bytes
 
 -- it is a worker's session that hears such bytes
 pub record IsBadFor (x : Worker LiveSession) (bytes : List ℕ) : Type 0 where

@@ -1,9 +1,10 @@
 //! The connections that stand, by their ids, and what becomes of one.
 
-ghost use Rattle.std.specs.Prelude.{◌≡◌, ◌<◌, ◌++◌, IfOk, IsOk, OnOk, OnErr, MatchOption, None, true};
+ghost use Rattle.std.specs.Prelude.{◌≡◌, ◌<◌, ◌++◌, IfOk, IsOk, OnOk, OnErr, MatchOption, None, [], true, false};
 ghost use Rattle.std.specs.Arc.{arc_value};
 ghost use Rattle.fwd_msgpack.specs.Scans.{Bad, first_of};
 ghost use Rattle.fwd_msgpack.specs.declared.fault.ScanFault.{ScanFault};
+ghost use Rattle.fwd_source.specs.Asked.{IsRefused};
 ghost use Rattle.fwd_source.specs.Live.{source_gives_first};
 ghost use Rattle.fwd_model.specs.Setups.{setup_of};
 ghost use Rattle.fwd_core.specs.Places.{IsPlace};
@@ -93,6 +94,8 @@ pub fn hear_piece(alloc: Global, source: &mut Source, bytes: &[u8]) -> Result<An
         (fault : ScanFault)
         → first_of limits.bytes limits.depth (source.old.live.rest ++ bytes.now) ≡ Bad fault
         → IsOk result }
+    ensures refused { source.old.live.awaits ≡ false → source.old.live.rest ≡ []
+        → IsRefused source.old.live.setup.limits bytes.now → IsOk result }
     ensures next { OnOk result (source.new.live
         ≡ state_of source.old.live (piece lives source.old.live bytes.now)) }
     ensures err { OnErr result (source.new.live ≡ source.old.live) }
