@@ -53,8 +53,8 @@ struct Signal {
     is_awaited: AtomicBool,
     /// It sleeps meanwhile, or is about to: a wake has to reach it.
     is_asleep: AtomicBool,
-    /// It has a chunk that is not acknowledged.
-    has_chunk: AtomicBool,
+    /// It has a chunk that is not acknowledged, or had one just now and looks for the next one.
+    is_busy: AtomicBool,
 }
 
 /// Wakes a worker that looks for a chunk, from another thread.
@@ -70,9 +70,10 @@ impl WorkerWaker {
         self.signal.is_awaited.load(Ordering::SeqCst)
     }
 
-    /// Whether the worker has a chunk that is not acknowledged.
-    pub fn has_chunk(&self) -> bool {
-        self.signal.has_chunk.load(Ordering::SeqCst)
+    /// Whether the worker has a chunk that is not acknowledged, or had one just now and looks for the
+    /// next one.
+    pub fn is_busy(&self) -> bool {
+        self.signal.is_busy.load(Ordering::SeqCst)
     }
 
     /// A chunk was closed: a worker that looks for one, or found none since it last began to look,
@@ -161,7 +162,7 @@ impl WorkerWait {
         let signal = Signal {
             is_awaited: AtomicBool::new(false),
             is_asleep: AtomicBool::new(false),
-            has_chunk: AtomicBool::new(false),
+            is_busy: AtomicBool::new(false),
         };
         let signal = Arc::new(alloc, signal)?;
         let waker = WorkerWaker {
@@ -298,9 +299,10 @@ impl WorkerWait {
         self.turn_to(false)
     }
 
-    /// The worker has a chunk that is not acknowledged from now on, or none.
-    pub fn note_chunk(&mut self, has_chunk: bool) {
-        self.signal.has_chunk.store(has_chunk, Ordering::SeqCst);
+    /// The worker has a chunk that is not acknowledged, or looks for the next one, from now on, or
+    /// neither.
+    pub fn note_busy(&mut self, is_busy: bool) {
+        self.signal.is_busy.store(is_busy, Ordering::SeqCst);
     }
 
     /// Whether the worker looks for a chunk.

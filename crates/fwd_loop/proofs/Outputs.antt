@@ -41,5 +41,5 @@ known_made s configs is =
     ap (λ ps. all_made_of ps (map hop_of s.outputs)) is ∙ made-each s.outputs
 
 -- as many are shown as there are
-pub shown_count : (outputs : List Output) → length outputs ≡ length (map shown outputs)
+pub shown_count : {J : Type 0} (outputs : List (Output J)) → length outputs ≡ length (map shown outputs)
 shown_count outputs = sym (length-map outputs shown)

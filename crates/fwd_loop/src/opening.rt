@@ -1,9 +1,11 @@
 //! What a relay has before its first turn, and how it is opened: the turns of its readers, and its
 //! workers beside them.
 
+use fwd_history::Run;
 use fwd_links::SharedFlags;
 use fwd_match::Routes;
 use fwd_monitors::{PageQueue, SharedTally, StartFault};
+use fwd_output::ReachedHistory;
 use fwd_pools::{WorkerSurroundings, WorkerThread};
 use fwd_reader::{Output, ReaderInbox, ReaderInboxes};
 use fwd_turns::{EventQueue, FrontReader, ReaderParts, Surroundings, Turns, close_all};
@@ -14,18 +16,20 @@ use std::sync::Wait;
 use std::time::Instant;
 
 /// What a relay's readers and workers share.
-pub(crate) struct Shared {
+pub(crate) struct Shared<J: Run> {
     pub flags: SharedFlags,
     pub routes: Routes,
-    pub outputs: Vec<Output>,
+    pub outputs: Vec<Output<J>>,
     pub inboxes: ReaderInboxes,
     pub journal_events: EventQueue,
     pub tally: SharedTally,
     pub pages: PageQueue,
+    /// The history of the run as far as it is known before the first turn, for the proof.
+    pub reached: ReachedHistory<J>,
 }
 
 // A drop of its own is proved once, and not at each place where a relay goes.
-impl Drop for Shared {
+impl<J: Run> Drop for Shared<J> {
     fn drop(self) {
         let Shared {
             flags: _,
@@ -35,6 +39,7 @@ impl Drop for Shared {
             journal_events: _,
             tally: _,
             pages: _,
+            reached: _,
         } = self;
     }
 }
@@ -61,12 +66,12 @@ impl Drop for Own {
 
 /// A worker of a relay, which works beside the relay's turns, in a thread of its own.
 #[derive(Drop)]
-pub struct WorkerTurns<'a> {
+pub struct WorkerTurns<'a, J: Run> {
     thread: &'a mut WorkerThread,
-    around: WorkerSurroundings<'a>,
+    around: WorkerSurroundings<'a, J>,
 }
 
-impl<'a> WorkerTurns<'a> {
+impl<'a, J: Run> WorkerTurns<'a, J> {
     /// Works for its output in so many turns, or until all workers are to end.
     pub fn work<R: Net + Wait + Clock + AllocGlobal>(self, rt: &R, turns: u64) {
         let WorkerTurns { thread, around } = self;
@@ -75,12 +80,12 @@ impl<'a> WorkerTurns<'a> {
 }
 
 /// The workers of a relay.
-fn workers_of<'a>(
+fn workers_of<'a, J: Run>(
     alloc: Global,
-    shared: &'a Shared,
+    shared: &'a Shared<J>,
     threads: &'a mut [WorkerThread],
     start: Option<Instant>,
-) -> Result<Vec<WorkerTurns<'a>>, StartFault> {
+) -> Result<Vec<WorkerTurns<'a, J>>, StartFault> {
     let around = WorkerSurroundings {
         flags: &shared.flags,
         outputs: &shared.outputs,
@@ -105,13 +110,13 @@ struct ReaderPlace<'a> {
 }
 
 /// The turns of a relay's reader, which has these parts. The only error is out of memory.
-fn turns_of<'a, R: Wait + Clock>(
+fn turns_of<'a, J: Run, R: Wait + Clock>(
     rt: &'a R,
     alloc: Global,
-    shared: &'a Shared,
+    shared: &'a Shared<J>,
     place: ReaderPlace<'a>,
     parts: &'a mut ReaderParts,
-) -> Result<Turns<'a, R>, StartFault> {
+) -> Result<Turns<'a, J, R>, StartFault> {
     let ReaderPlace {
         number,
         inbox,
@@ -127,18 +132,19 @@ fn turns_of<'a, R: Wait + Clock>(
         inbox,
         number,
         start,
+        reached: &shared.reached,
     };
     Turns::new(rt, around, parts, &shared.journal_events, front)
 }
 
 /// The turns of the reader in front of a relay. The only error is out of memory.
-fn front_of<'a, R: Wait + Clock>(
+fn front_of<'a, J: Run, R: Wait + Clock>(
     rt: &'a R,
     alloc: Global,
-    shared: &'a Shared,
+    shared: &'a Shared<J>,
     parts: &'a mut ReaderParts,
     start: Option<Instant>,
-) -> Result<Turns<'a, R>, StartFault> {
+) -> Result<Turns<'a, J, R>, StartFault> {
     let place = ReaderPlace {
         number: 0,
         inbox: &shared.inboxes.front,
@@ -149,13 +155,13 @@ fn front_of<'a, R: Wait + Clock>(
 }
 
 /// The turns of the readers of a relay that are not in front. The only error is out of memory.
-fn others_of<'a, R: Wait + Clock>(
+fn others_of<'a, J: Run, R: Wait + Clock>(
     rt: &'a R,
     alloc: Global,
-    shared: &'a Shared,
+    shared: &'a Shared<J>,
     others: &'a mut [ReaderParts],
     start: Option<Instant>,
-) -> Result<Vec<Turns<'a, R>>, StartFault> {
+) -> Result<Vec<Turns<'a, J, R>>, StartFault> {
     let mut readers = Vec::new(alloc);
     for ((number, inbox), parts) in (1..usize::MAX).zip(&shared.inboxes.others).zip(others) {
         let place = ReaderPlace {
@@ -181,20 +187,20 @@ fn others_of<'a, R: Wait + Clock>(
 }
 
 /// A relay that is open: the turns of its readers, and its workers.
-pub struct Opened<'a, R: Clock> {
+pub struct Opened<'a, J: Run, R: Clock> {
     /// Those of the reader in front.
-    pub turns: Turns<'a, R>,
-    pub others: Vec<Turns<'a, R>>,
-    pub workers: Vec<WorkerTurns<'a>>,
+    pub turns: Turns<'a, J, R>,
+    pub others: Vec<Turns<'a, J, R>>,
+    pub workers: Vec<WorkerTurns<'a, J>>,
 }
 
 /// Opens a relay of these parts. The only error is out of memory.
-pub(crate) fn open<'a, R: Wait + Clock>(
+pub(crate) fn open<'a, J: Run, R: Wait + Clock>(
     rt: &'a R,
     alloc: Global,
-    shared: &'a Shared,
+    shared: &'a Shared<J>,
     own: &'a mut Own,
-) -> Result<Opened<'a, R>, StartFault> {
+) -> Result<Opened<'a, J, R>, StartFault> {
     let Own {
         front,
         others,

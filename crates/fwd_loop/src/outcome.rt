@@ -4,6 +4,7 @@ ghost use Rattle.std.specs.Prelude.{◌≡◌, length, All, IfOk};
 ghost use Rattle.fwd_reader.specs.Ends.{AddUp};
 
 use fwd_chunks::Report;
+use fwd_history::Run;
 use fwd_listeners::{Control, ControlAnswer, Ending, ending_of, left_in};
 use fwd_monitors::StartFault;
 use fwd_peers::SocketPath;
@@ -32,10 +33,10 @@ pub(crate) struct Ended {
 impl Outcome {
     /// What a run over these outputs came to, which was asked to stop or not. Each is locked by
     /// itself for a moment. The only error is out of memory.
-    pub(crate) fn of<R: Wait>(
+    pub(crate) fn of<J: Run, R: Wait>(
         rt: &R,
         alloc: Global,
-        outputs: &[Output],
+        outputs: &[Output<J>],
         was_asked: bool,
     ) -> Result<Outcome, AllocError>
         ensures count { IfOk result (λ o. length o.reports.items ≡ length outputs.now) }

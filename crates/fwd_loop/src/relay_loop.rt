@@ -1,6 +1,6 @@
 //! The relay over sockets.
 
-ghost use Rattle.std.specs.Prelude.{◌≡◌, ◌≤◌, length, map, true, All, IfOk};
+ghost use Rattle.std.specs.Prelude.{◌≡◌, ◌<◌, ◌≤◌, length, map, true, All, IfOk};
 ghost use Rattle.fwd_config.specs.Configs.{parts_known};
 ghost use Rattle.fwd_settings.specs.Ranges.{in_range};
 ghost use Rattle.fwd_loop.specs.Loops.{relay_by};
@@ -15,10 +15,12 @@ use crate::set_parts::{SetParts, parts_of, run_id_of};
 use crate::threads::{Beside, Started};
 use fwd_base::Text;
 use fwd_chunks::Report;
+use fwd_history::Run;
 use fwd_links::{Mailbox, SharedFlags};
 use fwd_listeners::{Ending, make_room};
 use fwd_match::Routes;
 use fwd_monitors::{Observer, PageQueue, SharedTally, StartFault};
+use fwd_output::{OpenedOutputs, OutputPages};
 use fwd_peers::{PeerAddress, SocketPath};
 use fwd_pools::{RandomStreams, RunOrigin, WorkerPools, pools_of};
 use fwd_reader::{FlushTimer, Output, ReaderInbox, ReaderInboxes, tally_of};
@@ -41,14 +43,14 @@ const LARGEST_KEPT: usize = 4 << 20;
 
 /// The relay, with its listeners open, before its first turn. In contracts it is what each of its
 /// outputs is, and by which patterns requests go to them.
-pub struct Loop {
+pub struct Loop<J: Run> {
     alloc: Global,
-    shared: Shared,
+    shared: Shared<J>,
     own: Own,
 }
 
 // A drop of its own is proved once, and not at each place where a relay goes.
-impl Drop for Loop {
+impl<J: Run> Drop for Loop<J> {
     fn drop(self) {
         let Loop {
             alloc: _,
@@ -58,7 +60,7 @@ impl Drop for Loop {
     }
 }
 
-impl Model for Loop {
+impl<J: Run> Model for Loop<J> {
     ghost use Rattle.std.specs.Prelude.{map};
     ghost use Rattle.fwd_loop.specs.Loops.{LoopShown};
     ghost use Rattle.fwd_pools.specs.Pools.{shown};
@@ -162,10 +164,10 @@ struct OtherReaders {
 }
 
 /// A reader of these outputs that is not in front: what it has of its own, and what it is told by.
-fn other_reader<R: Net>(
+fn other_reader<J: Run, R: Net>(
     rt: &R,
     flags: &SharedFlags,
-    pools: &WorkerPools,
+    pools: &WorkerPools<J>,
     limits: ReaderLimits,
 ) -> Result<(ReaderParts, ReaderInbox), StartFault> {
     let timers = pools.timers()?;
@@ -175,10 +177,10 @@ fn other_reader<R: Net>(
 }
 
 /// The readers of these outputs that are not in front.
-fn other_readers<R: Net>(
+fn other_readers<J: Run, R: Net>(
     rt: &R,
     flags: &SharedFlags,
-    pools: &WorkerPools,
+    pools: &WorkerPools<J>,
     address: Address,
 ) -> Result<OtherReaders, StartFault> {
     let alloc = pools.alloc;
@@ -201,10 +203,10 @@ struct BesideOutputs {
 }
 
 /// What a relay of these outputs has beside.
-fn beside_outputs<R: Net>(
+fn beside_outputs<J: Run, R: Net>(
     rt: &R,
     flags: &SharedFlags,
-    pools: &WorkerPools,
+    pools: &WorkerPools<J>,
     address: Address,
 ) -> Result<BesideOutputs, StartFault> {
     let tally = tally_of(pools.alloc, &pools.outputs, address.listen.has_metrics)?;
@@ -218,17 +220,20 @@ fn beside_outputs<R: Net>(
 }
 
 /// The relay of these outputs and their workers, with all its readers.
-fn loop_of<R: Net>(
+fn loop_of<J: Run, R: Net>(
     rt: &R,
     front: FrontLoop,
-    pools: WorkerPools,
+    pools: WorkerPools<J>,
     address: Address,
     routes: Routes,
-) -> Result<Loop, StartFault>
+) -> Result<Loop<J>, StartFault>
+    requires { 0 < pools.pages.1 }
     ensures { IfOk result (λ relay. relay
         ≡ record { outputs = map shown pools.outputs.items; routes = routes }) }
 {
     let alloc = pools.alloc;
+    let mut pools = pools;
+    let reached = pools.reached();
     let BesideOutputs {
         tally,
         timers,
@@ -255,6 +260,7 @@ fn loop_of<R: Net>(
         journal_events: EventQueue::new(alloc),
         tally,
         pages: PageQueue::new(),
+        reached,
     };
     let own = Own {
         front: ReaderParts { event_loop, timers },
@@ -264,15 +270,17 @@ fn loop_of<R: Net>(
     Ok(Loop { alloc, shared, own })
 }
 
-/// The relay of these parts.
-fn relay_of<R: Net + Files + AllocGlobal>(
+/// The relay of these parts, with the pages of a history in which nothing happened yet.
+fn relay_of<J: Run, R: Net + Files + AllocGlobal>(
     rt: &R,
+    pages: OutputPages<J>,
     address: Address,
     run: RunOrigin<'_>,
     parts: SetParts,
-) -> Result<Loop, StartFault>
+) -> Result<Loop<J>, StartFault>
     requires each { length parts.hops.items ≡ length parts.outputs.items }
     requires few { length parts.outputs.items ≤ 64 }
+    requires pages { (pages.0 ≡ 0) × (64 < pages.1) }
     ensures { IfOk result (λ relay. relay ≡ record {
       outputs = all_made_of (map parts_known parts.outputs.items) parts.hops.items;
       routes = parts.routes;
@@ -286,7 +294,7 @@ fn relay_of<R: Net + Files + AllocGlobal>(
         hops,
     } = parts;
     let front = front_loop(rt, alloc, address, source)?;
-    let none = WorkerPools::new(alloc, address.readers);
+    let none = WorkerPools::new(alloc, pages, address.readers);
     let pools = pools_of(rt, none, run, outputs, hops)?;
     loop_of(rt, front, pools, address, routes)
 }
@@ -296,20 +304,27 @@ fn take_large_piece(alloc: Global) {
     let _ = Vec::<u8>::with_capacity(alloc, LARGEST_KEPT);
 }
 
-impl Loop {
+impl<J: Run + Send + Sync> Loop<J> {
     /// Opens the listeners that the settings name, draws the run's id where they name none, and
-    /// makes the outputs and their workers. No thread runs yet.
+    /// makes the outputs and their workers. No thread runs yet. What the outputs do is told in the
+    /// history that it is given, in proofs alone.
     ///
     /// It fails with `Listen` where an address cannot be listened at, with `Control` where the
     /// control socket cannot be had, with `Poll` where the system has nothing to wait with, with
     /// `Seed` where the settings have no seed and the system gives no random bytes, and with
     /// `Memory`.
-    pub fn new<R: Net + Files + AllocGlobal>(rt: &R, settings: Settings) -> Result<Loop, StartFault>
-        requires { in_range settings ≡ true }
+    pub fn new<R: Net + Files + AllocGlobal>(
+        rt: &R,
+        opened: OpenedOutputs,
+        settings: Settings,
+    ) -> Result<Loop<J>, StartFault>
+        requires range { in_range settings ≡ true }
+        requires book { opened.book ≡ J.book }
+        requires pages { 64 < opened.pages }
         ensures { IfOk result (λ relay. relay ≡ relay_by settings) }
     {
         let control = control_path_of(&settings);
-        let relay = Loop::without_control(rt, settings)?;
+        let relay = Loop::without_control(rt, opened.named(), settings)?;
         match control {
             Some(path) => relay.with_control(rt, path),
             None => Ok(relay),
@@ -317,7 +332,7 @@ impl Loop {
     }
 
     /// The same relay, which can be asked to stop over a socket of this path.
-    fn with_control<R: Net + Files>(self, rt: &R, path: SocketPath) -> Result<Loop, StartFault>
+    fn with_control<R: Net + Files>(self, rt: &R, path: SocketPath) -> Result<Loop<J>, StartFault>
         ensures { IfOk result (λ relay. relay ≡ self) }
     {
         let mut relay = self;
@@ -326,7 +341,7 @@ impl Loop {
     }
 
     /// The same relay, whose metrics page names the match patterns of its outputs so.
-    pub fn with_patterns(self, patterns: Vec<Text>) -> Loop
+    pub fn with_patterns(self, patterns: Vec<Text>) -> Self
         ensures { result ≡ self }
     {
         let mut relay = self;
@@ -337,9 +352,11 @@ impl Loop {
     /// The relay of these settings, which cannot be asked to stop.
     fn without_control<R: Net + Files + AllocGlobal>(
         rt: &R,
+        pages: OutputPages<J>,
         settings: Settings,
-    ) -> Result<Loop, StartFault>
-        requires { in_range settings ≡ true }
+    ) -> Result<Loop<J>, StartFault>
+        requires range { in_range settings ≡ true }
+        requires pages { (pages.0 ≡ 0) × (64 < pages.1) }
         ensures { IfOk result (λ relay. relay ≡ relay_by settings) }
     {
         let alloc = rt.alloc();
@@ -352,13 +369,16 @@ impl Loop {
             random: &random,
             id,
         };
-        relay_of(rt, address, run, parts)
+        relay_of(rt, pages, address, run, parts)
     }
 
     /// Opens the relay, so that its turns are made one by one, and its workers are run beside them
     /// or not at all. The only error is out of memory. Tickets must be spent, so they lie in what
     /// this opens, which is closed; a `Loop` may still be dropped.
-    pub fn open<'a, R: Wait + Clock>(&'a mut self, rt: &'a R) -> Result<Opened<'a, R>, StartFault> {
+    pub fn open<'a, R: Wait + Clock>(
+        &'a mut self,
+        rt: &'a R,
+    ) -> Result<Opened<'a, J, R>, StartFault> {
         open(rt, self.alloc, &self.shared, &mut self.own)
     }
 
@@ -458,10 +478,10 @@ impl Loop {
 
 /// What a run over these outputs came to, which was asked to stop or not. The only error is out of
 /// memory.
-fn outcome_of<R: Wait>(
+fn outcome_of<J: Run, R: Wait>(
     rt: &R,
     alloc: Global,
-    outputs: &[Output],
+    outputs: &[Output<J>],
     was_asked: bool,
 ) -> Result<Outcome, StartFault>
     ensures count { IfOk result (λ o. length o.reports.items ≡ length outputs.now) }
@@ -474,9 +494,9 @@ fn outcome_of<R: Wait>(
 
 /// Runs a relay of these parts for so many turns, or until it was asked to stop and is to end:
 /// whether it was asked.
-fn run_parts<R: Platform, W: Observer>(
+fn run_parts<J: Run + Send + Sync, R: Platform, W: Observer>(
     rt: &R,
-    shared: &Shared,
+    shared: &Shared<J>,
     own: &mut Own,
     observer: &mut W,
     count: u64,
@@ -500,10 +520,10 @@ fn run_parts<R: Platform, W: Observer>(
 
 /// Makes so many turns in this thread, and as many in each thread beside it, until all have ended;
 /// and has monitors' pages made in another one, where there can be one.
-fn serve<R: Platform, W: Observer>(
+fn serve<J: Run + Send + Sync, R: Platform, W: Observer>(
     rt: &R,
-    turns: &mut Turns<'_, R>,
-    beside: Beside<'_, '_, R>,
+    turns: &mut Turns<'_, J, R>,
+    beside: Beside<'_, '_, J, R>,
     observer: &mut W,
     count: u64,
 ) -> Result<(), StartFault> {
@@ -528,9 +548,9 @@ fn serve<R: Platform, W: Observer>(
 
 /// Makes so many turns in this thread, if those beside it could begin; and has them end where it
 /// failed, or the relay has nothing left to do.
-fn serve_front<R: Platform, W: Observer>(
+fn serve_front<J: Run, R: Platform, W: Observer>(
     rt: &R,
-    turns: &mut Turns<'_, R>,
+    turns: &mut Turns<'_, J, R>,
     begun: Result<(), StartFault>,
     observer: &mut W,
     count: u64,

@@ -2,6 +2,7 @@
 
 use crate::opening::WorkerTurns;
 use crate::platform::Platform;
+use fwd_history::Run;
 use fwd_monitors::StartFault;
 use fwd_turns::{PageMaker, Turns};
 use std::alloc::{AllocError, Global};
@@ -11,18 +12,18 @@ use std::thread::{JoinHandle, Scope, Threads};
 
 /// What works beside the reader in front, each in a thread of its own.
 #[derive(Drop)]
-pub struct Beside<'x, 'a, R: Clock> {
-    workers: Vec<WorkerTurns<'a>>,
-    readers: Vec<ReaderThread<'x, 'a, R>>,
+pub struct Beside<'x, 'a, J: Run, R: Clock> {
+    workers: Vec<WorkerTurns<'a, J>>,
+    readers: Vec<ReaderThread<'x, 'a, J, R>>,
 }
 
-impl<'x, 'a, R: Wait + Clock> Beside<'x, 'a, R> {
+impl<'x, 'a, J: Run, R: Wait + Clock> Beside<'x, 'a, J, R> {
     /// These workers and readers. The only error is out of memory.
     pub fn new(
         alloc: Global,
-        workers: Vec<WorkerTurns<'a>>,
-        others: &'x mut Vec<Turns<'a, R>>,
-    ) -> Result<Beside<'x, 'a, R>, AllocError> {
+        workers: Vec<WorkerTurns<'a, J>>,
+        others: &'x mut Vec<Turns<'a, J, R>>,
+    ) -> Result<Beside<'x, 'a, J, R>, AllocError> {
         let mut readers = Vec::with_capacity(alloc, others.len())?;
         let all = others.iter_mut();
         for turns in all {
@@ -34,11 +35,11 @@ impl<'x, 'a, R: Wait + Clock> Beside<'x, 'a, R> {
 
 /// What a thread of a reader that is not in front works on.
 #[derive(Drop)]
-struct ReaderThread<'x, 'a, R: Clock> {
-    turns: &'x mut Turns<'a, R>,
+struct ReaderThread<'x, 'a, J: Run, R: Clock> {
+    turns: &'x mut Turns<'a, J, R>,
 }
 
-impl<'x, 'a, R: Wait + Clock> ReaderThread<'x, 'a, R> {
+impl<'x, 'a, J: Run, R: Wait + Clock> ReaderThread<'x, 'a, J, R> {
     /// Makes so many turns, or as many as there are until all are to end.
     fn run(self, rt: &R, turns: u64) -> Result<(), StartFault> {
         self.turns.run(rt, turns)
@@ -56,9 +57,9 @@ pub struct Started {
 
 impl Started {
     /// None yet, with room for all of these and for one more. The only error is out of memory.
-    pub fn with_room_for<R: Clock>(
+    pub fn with_room_for<J: Run, R: Clock>(
         alloc: Global,
-        beside: &Beside<'_, '_, R>,
+        beside: &Beside<'_, '_, J, R>,
     ) -> Result<Started, AllocError> {
         let workers = beside.workers.len().saturating_add(1);
         Ok(Started {
@@ -70,11 +71,11 @@ impl Started {
     /// Starts a thread for each of these, which makes so many turns in it.
     ///
     /// It fails with `Thread` where a thread cannot be had. Those that were started work then, too.
-    pub fn start<'s, 'a, E, R: Platform>(
+    pub fn start<'s, 'a, E, J: Run + Send + Sync, R: Platform>(
         &mut self,
         scope: &Scope<'s, E>,
         rt: &'s R,
-        beside: Beside<'s, 'a, R>,
+        beside: Beside<'s, 'a, J, R>,
         turns: u64,
     ) -> Result<(), StartFault> {
         let Beside { workers, readers } = beside;
@@ -83,11 +84,11 @@ impl Started {
     }
 
     /// Starts a thread for each of these workers.
-    fn start_workers<'s, 'a: 's, E, R: Platform>(
+    fn start_workers<'s, 'a: 's, E, J: Run + Send + Sync, R: Platform>(
         &mut self,
         scope: &Scope<'s, E>,
         rt: &'s R,
-        workers: Vec<WorkerTurns<'a>>,
+        workers: Vec<WorkerTurns<'a, J>>,
         turns: u64,
     ) -> Result<(), StartFault> {
         for worker in workers {
@@ -100,11 +101,11 @@ impl Started {
     }
 
     /// Starts a thread for each of these readers.
-    fn start_readers<'s, 'a, E, R: Platform>(
+    fn start_readers<'s, 'a, E, J: Run + Send + Sync, R: Platform>(
         &mut self,
         scope: &Scope<'s, E>,
         rt: &'s R,
-        readers: Vec<ReaderThread<'s, 'a, R>>,
+        readers: Vec<ReaderThread<'s, 'a, J, R>>,
         turns: u64,
     ) -> Result<(), StartFault> {
         for reader in readers {
@@ -118,11 +119,11 @@ impl Started {
 
     /// Starts a thread that makes monitors' pages, if one can be had: whether it could. It is
     /// waited for with the workers.
-    pub(crate) fn start_pages<'s, 'a: 's, E, R: Platform>(
+    pub(crate) fn start_pages<'s, 'a: 's, E, J: Run + Send + Sync, R: Platform>(
         &mut self,
         scope: &Scope<'s, E>,
         rt: &'s R,
-        maker: PageMaker<'a>,
+        maker: PageMaker<'a, J>,
     ) -> bool {
         match scope.spawn(move || maker.work(rt)) {
             Ok(child) => {

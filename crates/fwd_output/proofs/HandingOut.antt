@@ -245,6 +245,12 @@ given-once b ts given back these =
     sym (given-beyond b [] ts given back these)
     ∙ ap (λ os. flat_map (λ o. receipt_if b.settled (request_at b.requests o)) os) (beyond-none (once (origins_of given)))
 
+-- the receipts of tickets are those of their origins
+pub origins-of_receipts : (b : LiveBook) (ts : List Ticket)
+    → map (λ (r : Receipt). r.origin) (receipts_for b ts) ≡ origins_of ts
+origins-of_receipts b [] = refl
+origins-of_receipts b (t ∷ ts) = ap (λ os. t.origin ∷ os) (origins-of_receipts b ts)
+
 -- ---- requests of other origins
 
 -- a request whose origin left is there no more

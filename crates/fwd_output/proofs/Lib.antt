@@ -8,3 +8,4 @@ pub mod HandingOut
 pub mod Counting
 pub mod Returning
 pub mod Settling
+pub mod RunLemmas

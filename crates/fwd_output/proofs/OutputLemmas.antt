@@ -115,7 +115,7 @@ lead-more : (o p : OutputHistory) (es : List OutputEvent) (e : OutputEvent) → 
 lead-more o p [] e same may = (subst (λ x. MayCome x e) same may, ap (λ x. output_next x e) same)
 lead-more o p (d ∷ es) e lead may = (lead.0, lead-more (output_next o d) p es e lead.1 may)
 
-one-more : (h : OutputHistory) (e : OutputEvent) → IsReachedOutput h → MayCome h e
+pub one-more : (h : OutputHistory) (e : OutputEvent) → IsReachedOutput h → MayCome h e
     → IsReachedOutput (output_next h e)
 one-more h e r may = record {
   setting = r.setting;
@@ -124,14 +124,24 @@ one-more h e r may = record {
   leads = lead-more (no_history r.setting r.servers) h r.events e r.leads may;
 }
 
+-- an event may come to a history, and leads to what is shown
+pub record Turn (h : OutputHistory) (l : LiveOutput) : Type 0 where
+  pub event : OutputEvent
+  pub may : MayCome h event
+  pub is : l ≡ live_output (output_next h event)
+
 -- an event comes, and does to the history what is done to its live part
 moves : (f : LiveOutput → LiveOutput) (e : OutputEvent) (l : LiveOutput) (t : IsLiveOutput l)
     → MayCome t.history e → live_output (output_next t.history e) ≡ f (live_output t.history)
-    → IsLiveOutput (f l)
-moves f e l t may follows = record {
-  history = output_next t.history e;
-  reached = one-more t.history e t.reached may;
-  is = ap f t.is ∙ sym follows;
+    → Turn t.history (f l)
+moves f e l t may follows = record { event = e; may = may; is = ap f t.is ∙ sym follows }
+
+-- what is shown then is the live part of a history too
+goes : (l m : LiveOutput) (t : IsLiveOutput l) → Turn t.history m → IsLiveOutput m
+goes l m t turn = record {
+  history = output_next t.history turn.event;
+  reached = one-more t.history turn.event t.reached turn.may;
+  is = turn.is;
 }
 
 -- ---- the events
@@ -158,10 +168,14 @@ flush-follows h now kind own = λ i. record {
   servers = live_servers h.setting h.servers;
 }
 
+pub flush-turn : (l : LiveOutput) (now : ℕ) (kind : FlushKind) (t : IsLiveOutput l)
+    → Turn t.history (with_buffer (live_flushes l.buffer now kind) l)
+flush-turn l now kind t =
+    moves (λ x. with_buffer (live_flushes x.buffer now kind) x) (Flush now kind) l t tt (flush-follows t.history now kind (standing-sane l t))
+
 pub flushes : (l : LiveOutput) (now : ℕ) (kind : FlushKind) → IsLiveOutput l
     → IsLiveOutput (with_buffer (live_flushes l.buffer now kind) l)
-flushes l now kind t =
-    moves (λ x. with_buffer (live_flushes x.buffer now kind) x) (Flush now kind) l t tt (flush-follows t.history now kind (standing-sane l t))
+flushes l now kind t = goes l (with_buffer (live_flushes l.buffer now kind) l) t (flush-turn l now kind t)
 
 take-follows : (h : OutputHistory) (worker now : ℕ) → IsSaneOutput h
     → live_output (output_next h (Take worker now))
@@ -173,10 +187,14 @@ take-follows h worker now own = λ i. record {
   servers = live_servers h.setting h.servers;
 }
 
+pub take-turn : (l : LiveOutput) (worker now : ℕ) (t : IsLiveOutput l)
+    → Turn t.history (with_buffer (live_takes l.buffer worker now) l)
+take-turn l worker now t =
+    moves (λ x. with_buffer (live_takes x.buffer worker now) x) (Take worker now) l t tt (take-follows t.history worker now (standing-sane l t))
+
 pub takes : (l : LiveOutput) (worker now : ℕ) → IsLiveOutput l
     → IsLiveOutput (with_buffer (live_takes l.buffer worker now) l)
-takes l worker now t =
-    moves (λ x. with_buffer (live_takes x.buffer worker now) x) (Take worker now) l t tt (take-follows t.history worker now (standing-sane l t))
+takes l worker now t = goes l (with_buffer (live_takes l.buffer worker now) l) t (take-turn l worker now t)
 
 look-follows : (h : OutputHistory) (now : ℕ)
     → live_output (output_next h (Look now)) ≡ output_looks (live_output h) now
@@ -187,8 +205,11 @@ look-follows h now = λ i. record {
   servers = live-looked h.setting h.servers (max h.buffer.moment now) i;
 }
 
+pub look-turn : (l : LiveOutput) (now : ℕ) (t : IsLiveOutput l) → Turn t.history (output_looks l now)
+look-turn l now t = moves (λ x. output_looks x now) (Look now) l t tt (look-follows t.history now)
+
 pub looked : (l : LiveOutput) (now : ℕ) → IsLiveOutput l → IsLiveOutput (output_looks l now)
-looked l now t = moves (λ x. output_looks x now) (Look now) l t tt (look-follows t.history now)
+looked l now t = goes l (output_looks l now) t (look-turn l now t)
 
 enter-follows : (h : OutputHistory) (origin : Origin) (r : Request) (now : ℕ) → IsSaneOutput h
     → live_output (output_next h (Enter origin r now))
@@ -213,11 +234,17 @@ enter-may l origin r now t new room = (
   buffer.refusal-live t.history.buffer origin r now (standing-sane l t).buffer ∙ ap (λ (x : LiveOutput). live_refusal x.buffer r now) (sym t.is) ∙ room,
 )
 
+pub enter-turn : (l : LiveOutput) (origin : Origin) (r : Request) (now : ℕ) (t : IsLiveOutput l)
+    → request_at l.book.requests origin ≡ None → live_refusal l.buffer r now ≡ None
+    → Turn t.history (output_enters l origin r now)
+enter-turn l origin r now t new room =
+    moves (λ x. output_enters x origin r now) (Enter origin r now) l t (enter-may l origin r now t new room) (enter-follows t.history origin r now (standing-sane l t))
+
 pub entered : (l : LiveOutput) (origin : Origin) (r : Request) (now : ℕ) → IsLiveOutput l
     → request_at l.book.requests origin ≡ None → live_refusal l.buffer r now ≡ None
     → IsLiveOutput (output_enters l origin r now)
 entered l origin r now t new room =
-    moves (λ x. output_enters x origin r now) (Enter origin r now) l t (enter-may l origin r now t new room) (enter-follows t.history origin r now (standing-sane l t))
+    goes l (output_enters l origin r now) t (enter-turn l origin r now t new room)
 
 -- what is entered is not refused
 pub none_refused : {T : Type 0} {x : T} {result : Result T AdmitError}
@@ -257,13 +284,17 @@ settle-follows h e own has = λ i. record {
   servers = live-settled h.setting h.servers e.server i;
 }
 
-pub settled : (l : LiveOutput) (e : ServerAck) (c : CarriedChunk) → IsLiveOutput l → IsCarried l.buffer c
-    → IsServerAck e c → IsLiveOutput (output_settles l e)
-settled l e c t is shows =
+pub settle-turn : (l : LiveOutput) (e : ServerAck) (c : CarriedChunk) (t : IsLiveOutput l)
+    → IsCarried l.buffer c → IsServerAck e c → Turn t.history (output_settles l e)
+settle-turn l e c t is shows =
     let his = theirs-now l c t is in
     let has : is_carried e.number t.history.buffer.carried ≡ true = ap (λ k. is_carried k t.history.buffer.carried) shows.number ∙ his.0 in
     let same : c ≡ carried_chunk_of t.history.buffer e.number = sym his.1 ∙ ap (carried_chunk_of t.history.buffer) (sym shows.number) in
     moves (λ x. output_settles x e) (Settle e) l t (has, subst (IsServerAck e) same shows) (settle-follows t.history e (standing-sane l t) has)
+
+pub settled : (l : LiveOutput) (e : ServerAck) (c : CarriedChunk) → IsLiveOutput l → IsCarried l.buffer c
+    → IsServerAck e c → IsLiveOutput (output_settles l e)
+settled l e c t is shows = goes l (output_settles l e) t (settle-turn l e c t is shows)
 
 back-follows : (h : OutputHistory) (number : ℕ) → IsSaneOutput h
     → is_carried number h.buffer.carried ≡ true
@@ -285,7 +316,8 @@ put_back l b c t here elsewhere = by (carried-or l.buffer c)
     by (inl is) =
         let has = (theirs-now l c t is).0 in
         subst (λ x. IsLiveOutput (with_buffer x l)) (sym (here is))
-        (moves (λ x. with_buffer (live_frees x.buffer c.number None) x) (PutBack c.number) l t has (back-follows t.history c.number (standing-sane l t) has))
+        (goes l (with_buffer (live_frees l.buffer c.number None) l) t
+        (moves (λ x. with_buffer (live_frees x.buffer c.number None) x) (PutBack c.number) l t has (back-follows t.history c.number (standing-sane l t) has)))
     by (inr not) = subst (λ x. IsLiveOutput (with_buffer x l)) (sym (elsewhere not)) t
 
 -- ---- a worker's end
@@ -321,6 +353,28 @@ loses-live setting s None moment = refl
 loses-live setting s (Some server) moment = live-lost setting s server moment
 
 -- the chunks that are handed back, and the server that may be lost
+pub end-turn : (l : LiveOutput) (d : LiveBuffer) (hs : List Handed) (server : Option ℕ) (now : ℕ)
+    (t : IsLiveOutput l) → IsHandedBack (live_looks l.buffer now) hs now d
+    → Turn t.history (record {
+      buffer = d;
+      book = l.book;
+      servers = live_loses l.servers server (max l.buffer.moment now);
+    })
+unfolding live_output live_buffer
+end-turn l d hs server now t back =
+    let h = t.history in
+    let own = (standing-sane l t).buffer in
+    let c = come_back hs (looks h.buffer now) now d (sane.looks-sane h.buffer now own)
+    (subst (λ (x : LiveOutput). IsHandedBack (live_looks x.buffer now) hs now d) t.is back) in record {
+      event = End c.back server now;
+      may = c.theirs;
+      is = λ i. record {
+        buffer = c.is i;
+        book = (t.is i).book;
+        servers = (ap (λ (x : LiveOutput). live_loses x.servers server (max x.buffer.moment now)) t.is ∙ sym (loses-live h.setting h.servers server (max h.buffer.moment now))) i;
+      };
+    }
+
 pub ended : (l : LiveOutput) (d : LiveBuffer) (hs : List Handed) (server : Option ℕ) (now : ℕ)
     → IsLiveOutput l → IsHandedBack (live_looks l.buffer now) hs now d
     → IsLiveOutput (record {
@@ -328,20 +382,8 @@ pub ended : (l : LiveOutput) (d : LiveBuffer) (hs : List Handed) (server : Optio
       book = l.book;
       servers = live_loses l.servers server (max l.buffer.moment now);
     })
-unfolding live_output live_buffer
 ended l d hs server now t back =
-    let h = t.history in
-    let own = (standing-sane l t).buffer in
-    let c = come_back hs (looks h.buffer now) now d (sane.looks-sane h.buffer now own)
-    (subst (λ (x : LiveOutput). IsHandedBack (live_looks x.buffer now) hs now d) t.is back) in record {
-      history = output_next h (End c.back server now);
-      reached = one-more h (End c.back server now) t.reached c.theirs;
-      is = λ i. record {
-        buffer = c.is i;
-        book = (t.is i).book;
-        servers = (ap (λ (x : LiveOutput). live_loses x.servers server (max x.buffer.moment now)) t.is ∙ sym (loses-live h.setting h.servers server (max h.buffer.moment now))) i;
-      };
-    }
+    goes l (record { buffer = d; book = l.book; servers = live_loses l.servers server (max l.buffer.moment now) }) t (end-turn l d hs server now t back)
 
 -- ---- who is told, and who is forgotten
 
@@ -358,10 +400,14 @@ forget-follows h origins = λ i. record {
   servers = live_servers h.setting h.servers;
 }
 
+pub forget-turn : (l : LiveOutput) (origins : List Origin) (t : IsLiveOutput l)
+    → Turn t.history (with_book (live_leaves l.book origins) l)
+forget-turn l origins t =
+    moves (λ x. with_book (live_leaves x.book origins) x) (Forget origins) l t tt (forget-follows t.history origins)
+
 pub forgotten : (l : LiveOutput) (origins : List Origin) → IsLiveOutput l
     → IsLiveOutput (with_book (live_leaves l.book origins) l)
-forgotten l origins t =
-    moves (λ x. with_book (live_leaves x.book origins) x) (Forget origins) l t tt (forget-follows t.history origins)
+forgotten l origins t = goes l (with_book (live_leaves l.book origins) l) t (forget-turn l origins t)
 
 forget_of-follows : (h : OutputHistory) (conn : ℕ)
     → live_output (output_next h (ForgetAll conn))
@@ -376,7 +422,8 @@ forget_of-follows h conn = λ i. record {
 pub forgotten_of : (l : LiveOutput) (conn : ℕ) → IsLiveOutput l
     → IsLiveOutput (with_book (live_forgets_of l.book conn) l)
 forgotten_of l conn t =
-    moves (λ x. with_book (live_forgets_of x.book conn) x) (ForgetAll conn) l t tt (forget_of-follows t.history conn)
+    goes l (with_book (live_forgets_of l.book conn) l) t
+    (moves (λ x. with_book (live_forgets_of x.book conn) x) (ForgetAll conn) l t tt (forget_of-follows t.history conn))
 
 -- a receipt is given only where all entries of the request are acknowledged
 record Given (settled : List ServerAck) (qs : List Entered) (o : Origin) : Type 0 where
@@ -481,12 +528,18 @@ alone-then : (l : LiveOutput) (t : IsLiveOutput l) → AreApart l.book.requests
 unfolding live_output live_book
 alone-then l t alone = subst (λ (x : LiveOutput). AreApart x.book.requests) t.is alone
 
+pub tell-turn : (l : LiveOutput) (os : List Origin) (t : IsLiveOutput l) → AreApart l.book.requests
+    → Turn t.history (with_book
+    (live_leaves l.book (map (λ (r : Receipt). r.origin) (receipts l.book.settled l.book.requests os))) l)
+tell-turn l os t alone =
+    let k = t.history.book in
+    let gone = map (λ (r : Receipt). r.origin) (receipts k.settled (untold k) os) in
+    let can = can-be-told k os (alone-then l t alone) in
+    subst (λ rs. Turn t.history (with_book (live_leaves l.book (map (λ (r : Receipt). r.origin) rs)) l)) (given-live l os t)
+    (moves (λ x. with_book (live_leaves x.book gone) x) (Tell gone) l t can (tell-follows t.history gone can))
+
 pub told : (l : LiveOutput) (os : List Origin) → IsLiveOutput l → AreApart l.book.requests
     → IsLiveOutput (with_book
     (live_leaves l.book (map (λ (r : Receipt). r.origin) (receipts l.book.settled l.book.requests os))) l)
 told l os t alone =
-    let k = t.history.book in
-    let gone = map (λ (r : Receipt). r.origin) (receipts k.settled (untold k) os) in
-    let can = can-be-told k os (alone-then l t alone) in
-    subst (λ rs. IsLiveOutput (with_book (live_leaves l.book (map (λ (r : Receipt). r.origin) rs)) l)) (given-live l os t)
-    (moves (λ x. with_book (live_leaves x.book gone) x) (Tell gone) l t can (tell-follows t.history gone can))
+    goes l (with_book (live_leaves l.book (map (λ (r : Receipt). r.origin) (receipts l.book.settled l.book.requests os))) l) t (tell-turn l os t alone)

@@ -3,7 +3,8 @@
 -- workers have, and what goes back. Seats: who may raise a counter. Tickets: what was admitted, and
 -- which receipts are right for it. Turns: what one turn under the lock does. ChunkStarts: when the
 -- chunks were begun that are not settled. Elsewhere: where a chunk goes that was lost. Looks: what a
--- worker sees, and how it takes a chunk by that.
+-- worker sees, and how it takes a chunk by that. RunEvents: what happens to the outputs of a run, in
+-- one history, and what an output is after it.
 pub mod Coupling
 pub mod OutputEvents
 pub mod HandedBack
@@ -13,6 +14,7 @@ pub mod Turns
 pub mod ChunkStarts
 pub mod Elsewhere
 pub mod Looks
+pub mod RunEvents
 -- Of the crates below, for those above.
 pub use Rattle.fwd_failover.specs.Doubts
 pub use Rattle.fwd_model.specs.declared.event.EndKind

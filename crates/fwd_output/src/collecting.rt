@@ -23,9 +23,14 @@ ghost use Rattle.fwd_output.specs.Turns.{
 };
 
 use crate::output::OutputState;
+use crate::run_event::ReachedHistory;
 use crate::ticket::Ticket;
 use fwd_book::Receipt;
 use std::alloc::{AllocError, Global};
+
+/// What is collected: receipts, the tickets that come back, and the history of the run, after which
+/// the output gives these receipts.
+pub type Collected<J> = (Vec<Receipt>, Vec<Ticket>, ReachedHistory<J>);
 
 /// Whether the output gave the ticket.
 fn is_here(state: &OutputState, ticket: &Ticket) -> bool

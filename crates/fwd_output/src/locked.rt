@@ -5,7 +5,6 @@ ghost use Rattle.std.specs.Prelude.{
   ◌≤◌,
   ◌+◌,
   ◌++◌,
-  ℕ,
   List,
   Err,
   None,
@@ -41,7 +40,7 @@ ghost use Rattle.fwd_chunks.specs.Soundness.{IsSound};
 ghost use Rattle.fwd_chunks.specs.TagCounts.{AddsUp, IsSnapshot, live_report};
 ghost use Rattle.fwd_failover.specs.Doubts.{live_is_doubted, live_trusted};
 ghost use Rattle.fwd_session.specs.ServerAcks.{IsServerAck};
-ghost use Rattle.fwd_book.specs.Live.{IsSound as IsSoundBook, live_leaves};
+ghost use Rattle.fwd_book.specs.Live.{IsSound as IsSoundBook};
 ghost use Rattle.fwd_model.specs.Outputs.{
   live_count_at,
   live_loses,
@@ -53,7 +52,7 @@ ghost use Rattle.fwd_model.specs.Outputs.{
 };
 ghost use Rattle.fwd_output.specs.HandedBack.{AreHere, IsHandedBack, kept_back, lost_back};
 ghost use Rattle.fwd_output.specs.OutputEvents.{IsLiveOutput};
-ghost use Rattle.fwd_output.specs.Seats.{parts_of, counts_of};
+ghost use Rattle.fwd_output.specs.RunEvents.{AreGivenAfter};
 ghost use Rattle.fwd_output.specs.Tickets.{
   Ticket as AbstractTicket,
   AreGiven,
@@ -76,25 +75,26 @@ ghost use Rattle.fwd_output.specs.Turns.{
   locked_tells,
 };
 
+mod closing;
 mod looking;
 
 use crate::chunk_starts::ChunkStarts;
-use crate::collecting::{hand_out, receipts_of, shows};
+use crate::collecting::{Collected, receipts_of, shows};
 use crate::lost_at::LostAt;
-use crate::output::OutputState;
+use crate::paged_output::PagedOutput;
 use crate::server_order::ServerOrder;
 use crate::server_set::ServerSet;
 use crate::server_view::{PickedChunk, ServerView};
-use crate::tally::{Ledgered, Seat, Tally};
+use crate::tally::Tally;
 use crate::ticket::Ticket;
-use fwd_book::{AdmitRefusal, Receipt};
+pub use closing::Closing;
+use fwd_book::AdmitRefusal;
 use fwd_chunks::{Carried, Counts, FlushKind, Report, Snapshot, tags_add_up};
 use fwd_modes::{Batch, Origin};
 use fwd_session::Acked;
 use std::alloc::{AllocError, Global};
 use std::marker::Model;
 use std::sync::Arc;
-use std::sync::ledger::Ledger;
 
 /// How long a claim on free chunks stands, in milliseconds. Who claims them looks again far sooner.
 const CLAIM: u64 = 100;
@@ -103,7 +103,7 @@ const CLAIM: u64 = 100;
 /// the output says.
 #[derive(Drop)]
 pub struct Locked<A: Tally, S: Tally> {
-    state: OutputState,
+    state: PagedOutput<A::Run>,
     accepted: A,
     settled: S,
     /// The moment (milliseconds) up to which free chunks are left to a worker that claims them.
@@ -137,18 +137,18 @@ impl<A: Tally, S: Tally> Model for Locked<A, S> {
 
 impl<A: Tally, S: Tally> Locked<A, S> {
     /// An output and its counters.
-    pub fn new(alloc: Global, state: OutputState, accepted: A, settled: S) -> Self
-        requires accepted { A.total accepted ≡ state.buffer.accepted }
-        requires settled { S.total settled ≡ state.buffer.settled }
+    pub fn new(alloc: Global, output: PagedOutput<A::Run>, accepted: A, settled: S) -> Self
+        requires accepted { A.total accepted ≡ output.buffer.accepted }
+        requires settled { S.total settled ≡ output.buffer.settled }
         ensures { result ≡ record {
-          output = state;
+          output = output;
           accepted = A.total accepted;
           settled = S.total settled;
           claimed = 0;
         } }
     {
         Locked {
-            state,
+            state: output,
             accepted,
             settled,
             claimed: 0,
@@ -186,7 +186,7 @@ impl<A: Tally, S: Tally> Locked<A, S> {
         ensures sound { IsSound self.now.output.buffer }
     {
         self.state.is_sound(); // for the proof
-        self.state.counts()
+        self.state.now().counts()
     }
 
     /// The same, and what is held of each tag, the tags in no order: made quickly, while others
@@ -197,7 +197,7 @@ impl<A: Tally, S: Tally> Locked<A, S> {
         ensures sound { IsSound self.now.output.buffer }
     {
         self.state.is_sound(); // for the proof
-        self.state.snapshot(alloc)
+        self.state.now().snapshot(alloc)
     }
 
     /// The same with the tags by rising bytes. The only error is out of memory.
@@ -208,7 +208,7 @@ impl<A: Tally, S: Tally> Locked<A, S> {
     {
         tags_add_up(); // for the proof
         self.state.is_sound(); // for the proof
-        self.state.report(alloc)
+        self.state.now().report(alloc)
     }
 
     /// When the oldest chunk was begun that is not settled, in milliseconds, if there is one.
@@ -241,7 +241,7 @@ impl<A: Tally, S: Tally> Locked<A, S> {
         ensures same { OnErr result (A.count seat.new ≡ A.count seat.old) }
         ensures parts { A.parts seat.new ≡ A.parts seat.old }
     {
-        if self.state.holds(origin) {
+        if self.state.now().holds(origin) {
             return Err((AdmitRefusal::NotNow, batch));
         }
         let admitted = match self.state.admit(alloc, origin, &batch, now) {
@@ -251,20 +251,22 @@ impl<A: Tally, S: Tally> Locked<A, S> {
         self.state.is_sound(); // for the proof
         self.accepted.add(seat, batch.len() as u64);
         let _ = self.begun.enter(admitted.spans.as_slice(), now);
-        let (run, output) = (self.state.run(), self.state.output());
+        let state = self.state.now();
+        let (run, output) = (state.run(), state.output());
         Ok(Ticket::new(run, output, origin, batch, admitted))
     }
 
-    /// Receipts for the tickets whose entries are all acknowledged, and the other tickets, in their
-    /// order. Of two tickets of one request the second comes back, and so does the ticket of
-    /// another output. It costs what is handed in, and no more: who holds many tickets learns from
-    /// `counts` whether anything was settled since, and need not hand them in where nothing was.
-    /// The only error is out of memory; then nothing has changed, and all tickets come back.
+    /// Receipts for the tickets whose entries are all acknowledged, the other tickets, in their
+    /// order, and the history of the run, after which the output gives these receipts. Of two
+    /// tickets of one request the second comes back, and so does the ticket of another output. It
+    /// costs what is handed in, and no more: who holds many tickets learns from `counts` whether
+    /// anything was settled since, and need not hand them in where nothing was. The only error is
+    /// out of memory; then nothing has changed, and all tickets come back.
     pub fn collect(
         &mut self,
         alloc: Global,
         tickets: Vec<Ticket>,
-    ) -> Result<(Vec<Receipt>, Vec<Ticket>), (AllocError, Vec<Ticket>)>
+    ) -> Result<Collected<A::Run>, (AllocError, Vec<Ticket>)>
         ensures collected { IfOk result (λ p. (told : List AbstractTicket)
             × AreCollected self.old.output.book [] tickets.items told p.1.items
             × (p.0.items ≡ receipts_for self.old.output.book told)
@@ -276,11 +278,14 @@ impl<A: Tally, S: Tally> Locked<A, S> {
         // They are what this output gives at that point of a history of its own events.
         ensures history { IfOk result (λ p.
             AreGiven self.old.output.book.setting p.0.items) }
+        // And that is the history of the run, as far as it is reached here.
+        ensures reached { IfOk result (λ p.
+            AreGivenAfter p.2 self.old.output.book.setting p.0.items) }
         ensures back { IfErr result (λ e. e.1.items ≡ tickets.items) }
         ensures err { OnErr result (self.new ≡ self.old) }
     {
         self.state.is_sound(); // for the proof
-        let Ok(due) = receipts_of(&self.state, alloc, &tickets) else {
+        let Ok(due) = receipts_of(self.state.now(), alloc, &tickets) else {
             return Err((AllocError, tickets));
         };
         let Ok(receipts) = Vec::with_capacity(alloc, tickets.len()) else {
@@ -289,7 +294,9 @@ impl<A: Tally, S: Tally> Locked<A, S> {
         let Ok(back) = Vec::with_capacity(alloc, tickets.len()) else {
             return Err((AllocError, tickets));
         };
-        Ok(hand_out(&mut self.state, tickets, due, receipts, back))
+        let reached = self.state.reached();
+        let (receipts, back) = self.state.hand_out(tickets, due, receipts, back);
+        Ok((receipts, back, reached))
     }
 
     /// Nobody is to be told of the ticket's request any more: it leaves, and its entries stay. The
@@ -299,7 +306,7 @@ impl<A: Tally, S: Tally> Locked<A, S> {
             → self.new ≡ locked_tells self.old (ticket.origin ∷ []) }
         ensures other { ¬ (IsShown self.old.output.book ticket) → self.new ≡ self.old }
     {
-        if shows(&self.state, &ticket) {
+        if shows(self.state.now(), &ticket) {
             self.state.leave_at(ticket.slot(), ticket.origin());
         }
         ticket.spend();
@@ -394,7 +401,7 @@ impl<A: Tally, S: Tally> Locked<A, S> {
         match self.take(alloc, seat, worker, now)? {
             None => Ok(None),
             Some(chunk) => {
-                let losses = self.state.losses(&chunk);
+                let losses = self.state.now().losses(&chunk);
                 let (lost_at, elsewhere) = self.way_of(chunk.number(), worker, now);
                 Ok(Some(PickedChunk {
                     chunk,
@@ -475,13 +482,13 @@ impl<A: Tally, S: Tally> Locked<A, S> {
         let server = self.state.choose(worker, now);
         let is_doubted = match server {
             None => false,
-            Some(server) => self.state.is_doubted(server),
+            Some(server) => self.state.now().is_doubted(server),
         };
         ServerView {
             is_claimed: self.is_claimed(now),
             server,
             is_doubted,
-            trusted: self.state.trusted(worker),
+            trusted: self.state.now().trusted(worker),
         }
     }
 
@@ -489,7 +496,7 @@ impl<A: Tally, S: Tally> Locked<A, S> {
     pub fn is_doubted(&self, server: u16) -> bool
         ensures { result ≡ live_is_doubted self.now.output.servers server }
     {
-        self.state.is_doubted(server)
+        self.state.now().is_doubted(server)
     }
 
     /// A server acknowledged the chunk: its entries are settled, and answered is how many they are.
@@ -545,47 +552,5 @@ impl<A: Tally, S: Tally> Locked<A, S> {
         let _ = seat;
         self.note_lost(server, &taken, &loaded, now);
         self.state.end(taken, loaded, server, now);
-    }
-}
-
-/// What an output came to, in entries.
-#[derive(Clone, Copy)]
-pub struct Closing {
-    pub accepted: u64,
-    pub settled: u64,
-    /// Accepted, and not settled.
-    pub left: u64,
-}
-
-impl<L: Ledger, M: Ledger> Locked<Ledgered<L>, Ledgered<M>> {
-    /// With all seats handed in, what they added is what the output accepted and settled.
-    pub fn close(self, admit_seats: Vec<Seat<L>>, work_seats: Vec<Seat<M>>) -> Closing
-        requires admitting { parts_of admit_seats.items ≡ L.parts }
-        requires working { parts_of work_seats.items ≡ M.parts }
-        ensures accepted { result.accepted ≡ counts_of admit_seats.items }
-        ensures settled { result.settled ≡ counts_of work_seats.items }
-        ensures left { result.accepted ≡ result.settled + result.left }
-        ensures counts { let counts = live_counts self.output.buffer in
-            (result.accepted ≡ counts.accepted) × (result.settled ≡ counts.settled)
-            × (result.left ≡ counts.held) }
-    {
-        let Locked {
-            state,
-            accepted,
-            settled,
-            claimed: _,
-            begun: _,
-            lost_at: _,
-            order: _,
-        } = self;
-        state.is_sound(); // for the proof
-        accepted.audit(admit_seats);
-        settled.audit(work_seats);
-        let counts = state.counts();
-        Closing {
-            accepted: counts.accepted,
-            settled: counts.settled,
-            left: counts.held,
-        }
     }
 }

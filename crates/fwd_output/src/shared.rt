@@ -24,15 +24,18 @@ ghost use Rattle.fwd_chunks.specs.TagCounts.{AddsUp, IsSnapshot, live_report};
 ghost use Rattle.fwd_session.specs.ServerAcks.{IsServerAck};
 ghost use Rattle.fwd_book.specs.History.{BookSetting};
 ghost use Rattle.fwd_output.specs.Looks.{may_take};
+ghost use Rattle.fwd_output.specs.RunEvents.{AreGivenAfter};
 ghost use Rattle.fwd_output.specs.Seats.{parts_of, counts_of};
 ghost use Rattle.fwd_output.specs.Tickets.{AreGiven, IsRight, ticket_of};
 
+use crate::collecting::Collected;
 use crate::locked::{Closing, Locked};
 use crate::server_view::{ChunkSearch, Look, PickedChunk, ServerView};
 use crate::tally::{Ledgered, Seat, Tally};
 use crate::ticket::Ticket;
-use fwd_book::{AdmitRefusal, Receipt};
+use fwd_book::AdmitRefusal;
 use fwd_chunks::{Carried, Counts, FlushKind, Report, Snapshot, tags_add_up};
+use fwd_history::Run;
 use fwd_modes::{Batch, Origin};
 use fwd_session::Acked;
 use std::alloc::{AllocError, Global};
@@ -111,16 +114,17 @@ impl<A: Tally, S: Tally> SharedOutput<A, S> {
         self.lock.lock(rt).admit(alloc, seat, origin, batch, now)
     }
 
-    /// Receipts for the tickets whose entries are all acknowledged, and the other tickets. It costs
-    /// what is handed in, and no more: who holds many tickets learns from `counts` whether anything
-    /// was settled since, and need not hand them in where nothing was. The only error is out of
-    /// memory, and then all tickets come back.
+    /// Receipts for the tickets whose entries are all acknowledged, the other tickets, and the
+    /// history of the run, after which the output gives these receipts. It costs what is handed in,
+    /// and no more: who holds many tickets learns from `counts` whether anything was settled since,
+    /// and need not hand them in where nothing was. The only error is out of memory, and then all
+    /// tickets come back.
     pub fn collect<R: Wait>(
         &self,
         rt: &R,
         alloc: Global,
         tickets: Vec<Ticket>,
-    ) -> Result<(Vec<Receipt>, Vec<Ticket>), (AllocError, Vec<Ticket>)>
+    ) -> Result<Collected<A::Run>, (AllocError, Vec<Ticket>)>
         ensures right { IfOk result (λ p. (setting : BookSetting)
             × IsPermutation tickets.items (map (ticket_of setting) p.0.items ++ p.1.items)
             × All (λ r. IsRight r (ticket_of setting r)) p.0.items) }
@@ -129,6 +133,10 @@ impl<A: Tally, S: Tally> SharedOutput<A, S> {
         ensures history { IfOk result (λ p. (setting : BookSetting)
             × IsPermutation tickets.items (map (ticket_of setting) p.0.items ++ p.1.items)
             × AreGiven setting p.0.items) }
+        // And that is the history of the run, as far as it is reached then.
+        ensures reached { IfOk result (λ p. (setting : BookSetting)
+            × IsPermutation tickets.items (map (ticket_of setting) p.0.items ++ p.1.items)
+            × AreGivenAfter p.2 setting p.0.items) }
         ensures back { IfErr result (λ e. e.1.items ≡ tickets.items) }
     {
         self.lock.lock(rt).collect(alloc, tickets)
@@ -254,7 +262,7 @@ impl<A: Tally, S: Tally> SharedOutput<A, S> {
     }
 }
 
-impl<L: Ledger, M: Ledger> SharedOutput<Ledgered<L>, Ledgered<M>> {
+impl<L: Ledger + Run, M: Ledger + Run> SharedOutput<Ledgered<L>, Ledgered<M>> {
     /// With all seats handed in, what they added is what the output accepted and settled.
     pub fn close(self, admit_seats: Vec<Seat<L>>, work_seats: Vec<Seat<M>>) -> Closing
         requires admitting { parts_of admit_seats.items ≡ L.parts }

@@ -3,12 +3,16 @@
 ghost use Rattle.std.specs.Prelude.{◌≡◌, ℕ, ◌+◌, ◌<◌, ◌≤◌, ◌^◌, ◌%◌, refl};
 ghost use Rattle.fwd_output.specs.Seats.{parts_of, counts_of};
 
-use std::marker::Model;
+use fwd_history::Run;
+use std::marker::{Model, PhantomData};
 use std::sync::ledger::{Blank, Book, Ledger, Share};
 
 /// A counter that is raised from seats. It has no maker, so that who holds one cannot put another
 /// in its place.
 pub trait Tally {
+    /// The run whose counter it is.
+    type Run: Run;
+
     /// What a thread holds that may raise the counter.
     type Seat;
 
@@ -137,7 +141,9 @@ impl<L: Ledger> Ledgered<L> {
     }
 }
 
-impl<L: Ledger> Tally for Ledgered<L> {
+impl<L: Ledger + Run> Tally for Ledgered<L> {
+    type Run = L;
+
     type Seat = Seat<L>;
 
     ghost total = { λ a. a };
@@ -181,26 +187,34 @@ impl<L: Ledger> Tally for Ledgered<L> {
 
 /// A counter that is a plain number, whose seats keep nothing.
 #[derive(Drop)]
-pub struct Plain(u64);
+pub struct Plain<J: Run> {
+    number: u64,
+    of: PhantomData<J>,
+}
 
-impl Model for Plain {
+impl<J: Run> Model for Plain<J> {
     ghost use Rattle.std.specs.Prelude.{ℕ};
 
     ghost Value = { ℕ };
 
-    ghost view = { λ p. p.0 };
+    ghost view = { λ p. p.number };
 }
 
-impl Plain {
+impl<J: Run> Plain<J> {
     /// A counter at this number.
     pub fn new(total: u64) -> Self
         ensures { result ≡ total }
     {
-        Plain(total)
+        Plain {
+            number: total,
+            of: PhantomData,
+        }
     }
 }
 
-impl Tally for Plain {
+impl<J: Run> Tally for Plain<J> {
+    type Run = J;
+
     type Seat = ();
 
     ghost total = { λ p. p };
@@ -218,7 +232,7 @@ impl Tally for Plain {
     ghost can_split = { λ s n. Unit {0} };
 
     fn add(&mut self, _seat: &mut (), number: u64) {
-        self.0 += number;
+        self.number += number;
     }
 
     fn split(_seat: &mut (), _split_parts: u64) {}

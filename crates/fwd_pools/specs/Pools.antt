@@ -35,7 +35,7 @@ pub record OutputShown : Type 0 where
   pub total : ℕ
 
 -- an output
-abbrev pub shown : Output → OutputShown
+abbrev pub shown : {J : Type 0} → Output J → OutputShown
 shown o = record {
   hop = record { servers = o.servers.items; waits_when_full = o.waits_when_full };
   workers = length o.wakers.items;

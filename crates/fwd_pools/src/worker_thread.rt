@@ -3,6 +3,7 @@
 ghost use Rattle.std.specs.Prelude.{◌≡◌, None, Some, IfSome, slice_get};
 
 use fwd_environment::{Denial, Gate, Pass, Place, Refused, WorkerEvent};
+use fwd_history::Run;
 use fwd_links::{
     RefusedChunk, RunClock, SharedFlags, SharedWait, TcpHub, WaitMode, WorkerNotice, WorkerWait,
     WorkerWaker,
@@ -21,6 +22,8 @@ use std::time::Instant;
 enum Backoff {
     /// At once: it had a chunk, and may find another.
     AtOnce,
+    /// Once more, now that the others see that it is at work no longer.
+    Again,
     /// It found none when it looked at once, or was woken: soon.
     Soon,
     /// It has found none for so long (milliseconds).
@@ -29,22 +32,25 @@ enum Backoff {
 
 /// Lets a worker wait for chunks, and stops it where all are to end.
 #[derive(Drop)]
-struct WorkerGate<'a> {
+struct WorkerGate<'a, J: Run> {
     flags: &'a SharedFlags,
     /// Where it tells what it did: in front all, and to the other readers what they are to hear.
     inboxes: &'a ReaderInboxes,
     number: u16,
-    output: &'a Output,
+    output: &'a Output<J>,
     wait: &'a SharedWait,
     backoff: Backoff,
     /// How many chunks it loaded that were not settled, as far as it was told: fewer where it has
     /// found none for a while.
     loaded: u32,
+    /// The others see that it is at work: it has loaded a chunk, or had one just now and looks for
+    /// the next one at once.
+    is_busy: bool,
     /// Why the server that is lost in this turn does not let it in, as that says.
     denial: Option<Denial>,
 }
 
-impl<'a> WorkerGate<'a> {
+impl<'a, J: Run> WorkerGate<'a, J> {
     /// The worker comes to a place, and waits there where it found no chunk before. Memory is made
     /// sure of, where what it does next takes any.
     fn come_to<R: Wait>(&mut self, rt: &R, place: Place) {
@@ -54,8 +60,9 @@ impl<'a> WorkerGate<'a> {
                 self.assure(rt, place);
             }
             Place::BeforeLoad => {
+                self.loaded = self.loaded.saturating_add(1);
+                self.note_busy(rt, true);
                 self.work(rt);
-                self.note_loaded(rt, self.loaded.saturating_add(1));
                 self.assure(rt, place);
             }
             Place::BeforeSettle | Place::AfterSettle => self.work(rt),
@@ -80,6 +87,11 @@ impl<'a> WorkerGate<'a> {
         let mode = match self.backoff {
             Backoff::AtOnce => {
                 self.wait.lock(rt).look_for_chunk();
+                self.backoff = Backoff::Again;
+                return;
+            }
+            Backoff::Again => {
+                self.note_busy(rt, self.loaded > 0);
                 self.backoff = Backoff::Soon;
                 return;
             }
@@ -90,28 +102,31 @@ impl<'a> WorkerGate<'a> {
         };
         let was_woken = self.wait.lock(rt).wait_for_chunk(mode, self.flags);
         self.backoff = if was_woken {
-            Backoff::Soon
+            self.note_busy(rt, true);
+            Backoff::Again
         } else {
-            self.note_loaded(rt, 0);
+            self.loaded = 0;
+            self.note_busy(rt, false);
             Backoff::Later(mode.waited())
         };
     }
 
-    /// It has loaded so many chunks that are not settled. The others see whether it has any.
-    fn note_loaded<R: Wait>(&mut self, rt: &R, loaded: u32) {
-        if (self.loaded == 0) != (loaded == 0) {
-            self.wait.lock(rt).note_chunk(loaded > 0);
+    /// The others see whether it is at work.
+    fn note_busy<R: Wait>(&mut self, rt: &R, is_busy: bool) {
+        if self.is_busy != is_busy {
+            self.is_busy = is_busy;
+            self.wait.lock(rt).note_busy(is_busy);
         }
-        self.loaded = loaded;
     }
 
     /// What becomes of the worker's wait and of its chunks behind what it tells. One that tried a
     /// server in vain was at work: it looks for another one soon.
     fn note<R: Wait>(&mut self, rt: &R, event: WorkerEvent) {
         match event {
-            WorkerEvent::Settled { .. } => self.note_loaded(rt, self.loaded.saturating_sub(1)),
+            WorkerEvent::Settled { .. } => self.loaded = self.loaded.saturating_sub(1),
             WorkerEvent::Lost { .. } => {
-                self.note_loaded(rt, 0);
+                self.loaded = 0;
+                self.note_busy(rt, false);
                 if let Backoff::Later(_) = self.backoff {
                     self.backoff = Backoff::Later(0);
                 }
@@ -131,7 +146,7 @@ impl<'a> WorkerGate<'a> {
     }
 }
 
-impl<'a> Gate for WorkerGate<'a> {
+impl<'a, J: Run> Gate for WorkerGate<'a, J> {
     fn pass<R: Wait>(&mut self, rt: &R, _worker: u16, place: Place, _turn: u64) -> Pass {
         self.come_to(rt, place);
         if self.flags.is_stopped() {
@@ -141,8 +156,9 @@ impl<'a> Gate for WorkerGate<'a> {
         }
     }
 
-    fn leaves_open(&self, _worker: u16) -> u64 {
-        self.output.leaves_open()
+    fn leaves_open(&self, worker: u16) -> u64 {
+        let own = if self.loaded == 0 { Some(worker) } else { None };
+        self.output.leaves_open(own)
     }
 
     fn hear<R: Wait>(&mut self, rt: &R, worker: u16, event: WorkerEvent) {
@@ -178,10 +194,10 @@ impl<'a> Gate for WorkerGate<'a> {
 }
 
 /// What the workers of a relay share with its readers, and when it started.
-#[derive(Clone, Copy)]
-pub struct WorkerSurroundings<'a> {
+#[derive_where(Clone, Copy)]
+pub struct WorkerSurroundings<'a, J: Run> {
     pub flags: &'a SharedFlags,
-    pub outputs: &'a [Output],
+    pub outputs: &'a [Output<J>],
     pub inboxes: &'a ReaderInboxes,
     pub start: Option<Instant>,
 }
@@ -189,20 +205,20 @@ pub struct WorkerSurroundings<'a> {
 /// What a worker works with: its gate, which knows its output, and the hub that connects it to the
 /// servers of just that output.
 #[derive(Drop)]
-struct Workplace<'a, N: Net> {
-    gate: WorkerGate<'a>,
+struct Workplace<'a, J: Run, N: Net> {
+    gate: WorkerGate<'a, J>,
     hub: TcpHub<'a, N>,
     ghost own: { hub ≡ gate.output.now.servers.items },
 }
 
-impl<'a, N: Net> Workplace<'a, N> {
+impl<'a, J: Run, N: Net> Workplace<'a, J, N> {
     /// What a worker of the output of this number works with, if there is such an output.
     fn of(
         net: &'a N,
-        around: WorkerSurroundings<'a>,
+        around: WorkerSurroundings<'a, J>,
         number: u16,
         wait: &'a SharedWait,
-    ) -> Option<Workplace<'a, N>>
+    ) -> Option<Workplace<'a, J, N>>
         ensures own { IfSome result (λ place.
             slice_get around.entry.outputs.now number ≡ Some place.gate.output.now) }
         ensures none { result ≡ None → slice_get around.entry.outputs.now number ≡ None }
@@ -217,6 +233,7 @@ impl<'a, N: Net> Workplace<'a, N> {
             wait,
             backoff: Backoff::Later(0),
             loaded: 0,
+            is_busy: false,
             denial: None,
         };
         Some(Workplace { gate, hub })
@@ -272,10 +289,10 @@ impl WorkerThread {
     }
 
     /// Works for its output in so many turns, or until all are to end.
-    pub fn work<R: Net + Wait + Clock + AllocGlobal>(
+    pub fn work<J: Run, R: Net + Wait + Clock + AllocGlobal>(
         &mut self,
         rt: &R,
-        around: WorkerSurroundings<'_>,
+        around: WorkerSurroundings<'_, J>,
         turns: u64,
     ) {
         let Some(place) = Workplace::of(rt, around, self.output, &self.wait) else {

@@ -19,14 +19,14 @@ use Rattle.fwd_reader.specs.Promises.{HoldsRouted}
 use Rattle.fwd_reader.proofs.Routed.{open_tickets_keep}
 
 -- the store of the route at a place
-pub got : (xs : List OutputRoute) (n : ℕ) (x : OutputRoute) → n < length xs → x ≡ get_or xs n x
+pub got : {J : Type 0} (xs : List (OutputRoute J)) (n : ℕ) (x : OutputRoute J) → n < length xs → x ≡ get_or xs n x
     → slice_get (stores_of xs) n ≡ Some x.open_tickets
 got [] n x lt is = absurd (omega arith)
 got (y ∷ ys) zero x lt is = ap (λ o. Some o.open_tickets) (sym is)
 got (y ∷ ys) (suc n) x lt is = got ys n x (omega arith) is
 
 -- the route at a place is another
-pub enters : (router : List OutputRoute) (number : ℕ) (output_route after : OutputRoute) (asked : Origin × Request)
+pub enters : {J : Type 0} (router : List (OutputRoute J)) (number : ℕ) (output_route after : OutputRoute J) (asked : Origin × Request)
     → number < length router → output_route ≡ get_or router number output_route
     → KeepsTicketOf number output_route.open_tickets asked after.open_tickets
     → Enters (stores_of router) number asked (stores_of (slice_set router number after))
@@ -55,7 +55,7 @@ admits o p s t number asked routed gives entered owed routes = record {
 }
 
 -- the tickets of the route at a place, where each one's are routed
-pub at_place : (routes : List (List (List ℕ))) (xs : List OutputRoute) (n : ℕ) (x : OutputRoute)
+pub at_place : {J : Type 0} (routes : List (List (List ℕ))) (xs : List (OutputRoute J)) (n : ℕ) (x : OutputRoute J)
     → n < length xs → x ≡ get_or xs n x → All (HoldsRouted routes) (stores_of xs)
     → HoldsRouted routes x.open_tickets
 at_place routes [] n x lt is all = absurd (omega arith)
@@ -67,7 +67,7 @@ at_place routes (y ∷ ys) (suc n) x lt is all =
     (All-tail (HoldsRouted routes) y.open_tickets (stores_of ys) all)
 
 -- an output's route whose tickets are routed is put there
-pub put_place : (routes : List (List (List ℕ))) (xs : List OutputRoute) (n : ℕ) (x : OutputRoute)
+pub put_place : {J : Type 0} (routes : List (List (List ℕ))) (xs : List (OutputRoute J)) (n : ℕ) (x : OutputRoute J)
     → HoldsRouted routes x.open_tickets → All (HoldsRouted routes) (stores_of xs)
     → All (HoldsRouted routes) (stores_of (slice_set xs n x))
 put_place routes xs n x one all =
@@ -75,7 +75,7 @@ put_place routes xs n x one all =
     (All-set (HoldsRouted routes) (stores_of xs) n x.open_tickets one all)
 
 -- an output's route with the same tickets is put there
-pub same_place : (xs : List OutputRoute) (n : ℕ) (x y : OutputRoute) → n < length xs → x ≡ get_or xs n x
+pub same_place : {J : Type 0} (xs : List (OutputRoute J)) (n : ℕ) (x y : OutputRoute J) → n < length xs → x ≡ get_or xs n x
     → y.open_tickets ≡ x.open_tickets → stores_of (slice_set xs n y) ≡ stores_of xs
 same_place [] n x y lt is same = absurd (omega arith)
 same_place (z ∷ zs) zero x y lt is same =
@@ -92,7 +92,7 @@ keeps_routed routes number asked s t named keeps all =
     (ap (λ q. route routes q.tag) keeps.batch ∙ named ∙ ap Some (sym keeps.output)) all
 
 -- an output's route more, whose tickets are routed
-pub push_place : (routes : List (List (List ℕ))) (xs : List OutputRoute) (x : OutputRoute)
+pub push_place : {J : Type 0} (routes : List (List (List ℕ))) (xs : List (OutputRoute J)) (x : OutputRoute J)
     → HoldsRouted routes x.open_tickets → All (HoldsRouted routes) (stores_of xs)
     → All (HoldsRouted routes) (stores_of (xs ++ x ∷ []))
 push_place routes [] x one all =

@@ -20,8 +20,8 @@ tells true s quiet due = due refl
 tells false s quiet due = quiet refl
 
 -- the tickets of the route at a place become others
-pub changes : (P : OpenTickets → OpenTickets → Type 0) (xs : List OutputRoute) (n : ℕ)
-    (x y : OutputRoute) → n < length xs → x ≡ get_or xs n x → P x.open_tickets y.open_tickets
+pub changes : {J : Type 0} (P : OpenTickets → OpenTickets → Type 0) (xs : List (OutputRoute J)) (n : ℕ)
+    (x y : OutputRoute J) → n < length xs → x ≡ get_or xs n x → P x.open_tickets y.open_tickets
     → ChangesAt P (stores_of xs) n (stores_of (slice_set xs n y))
 changes P xs n x y lt is changed = record {
   store = x.open_tickets;
@@ -166,7 +166,7 @@ another_time n stores between after told told_between told_then more times due r
     (between, (told_between, (more, (times, due, round))))
 
 -- nothing is to be handed in at the route at a place, where that is so at each
-pub quiet_at : (xs : List OutputRoute) (n : ℕ) (x : OutputRoute) → n < length xs
+pub quiet_at : {J : Type 0} (xs : List (OutputRoute J)) (n : ℕ) (x : OutputRoute J) → n < length xs
     → x ≡ get_or xs n x → All AreQuiet (stores_of xs) → AreQuiet x.open_tickets
 quiet_at [] n x lt is all = absurd (omega arith)
 quiet_at (y ∷ ys) zero x lt is all =
@@ -176,7 +176,7 @@ quiet_at (y ∷ ys) (suc n) x lt is all =
     quiet_at ys n x (omega arith) is (All-tail AreQuiet y.open_tickets (stores_of ys) all)
 
 -- nor at the first so many, and one more
-quiet_next : (xs : List OutputRoute) (n : ℕ) (x : OutputRoute) → n < length xs
+quiet_next : {J : Type 0} (xs : List (OutputRoute J)) (n : ℕ) (x : OutputRoute J) → n < length xs
     → x ≡ get_or xs n x → AreQuiet x.open_tickets → All AreQuiet (take n (stores_of xs))
     → All AreQuiet (take (suc n) (stores_of xs))
 quiet_next [] n x lt is one all = absurd (omega arith)
@@ -189,7 +189,7 @@ quiet_next (y ∷ ys) (suc n) x lt is one all =
     (quiet_next ys n x (omega arith) is one
     (All-tail AreQuiet y.open_tickets (take n (stores_of ys)) all))
 
-pub quiet_more : (xs : List OutputRoute) (n : ℕ) (x : OutputRoute) → n < length xs
+pub quiet_more : {J : Type 0} (xs : List (OutputRoute J)) (n : ℕ) (x : OutputRoute J) → n < length xs
     → x ≡ get_or xs n x → AreQuiet x.open_tickets → All AreQuiet (take n (stores_of xs))
     → All AreQuiet (take (n + 1) (stores_of xs))
 quiet_more xs n x lt is one all =
@@ -198,7 +198,7 @@ quiet_more xs n x lt is one all =
     (quiet_next xs n x lt is one all)
 
 -- nor at any
-pub quiet_all : (xs : List OutputRoute) (n : ℕ) → length xs ≤ n
+pub quiet_all : {J : Type 0} (xs : List (OutputRoute J)) (n : ℕ) → length xs ≤ n
     → All AreQuiet (take n (stores_of xs)) → All AreQuiet (stores_of xs)
 quiet_all [] n le all = All-nil AreQuiet
 quiet_all (y ∷ ys) zero le all = absurd (omega arith)

@@ -1,6 +1,7 @@
 -- What is owed at an output changes, and at no other.
 use Rattle.std.proofs.Common.{arith, ◌≡◌, ◌<◌, ◌≤◌, ◌-◌, ℕ, zero, suc, List, [], ◌∷◌, length, get_or, refl, ap, ◌∙◌}
 use Rattle.std.specs.Prelude.{map, slice_set}
+use Rattle.fwd_output.specs.RunEvents.{RunEvent}
 use Rattle.fwd_reader.specs.declared.admission.source_line.SourceLine.{SourceLine}
 use Rattle.fwd_reader.specs.declared.open_tickets.OpenTickets.{OpenTickets}
 use Rattle.fwd_reader.specs.Owing.{changed_at}
@@ -46,10 +47,11 @@ none_answered bytes (suc n) (x ∷ xs) none = ap (λ os. x ∷ os) (none_answere
 
 -- another amount is owed at an output
 pub changes : (routes : List (List (List ℕ))) (stores : List OpenTickets) (n : ℕ)
-    (change : ℕ → ℕ) (before after : List ℕ) (o : RouterShown) → after ≡ changed_at n change before
-    → record { routes = routes; stores = stores; owed = before } ≡ o
-    → record { routes = routes; stores = stores; owed = after }
+    (change : ℕ → ℕ) (before after : List ℕ) (reached : List RunEvent) (o : RouterShown)
+    → after ≡ changed_at n change before
+    → record { routes = routes; stores = stores; owed = before; reached = reached } ≡ o
+    → record { routes = routes; stores = stores; owed = after; reached = reached }
     ≡ record o { owed = changed_at n change o.owed }
-changes routes stores n change before after o changed is =
-    (λ i. record { routes = routes; stores = stores; owed = changed i })
+changes routes stores n change before after reached o changed is =
+    (λ i. record { routes = routes; stores = stores; owed = changed i; reached = reached })
     ∙ ap (λ (x : RouterShown). record x { owed = changed_at n change x.owed }) is

@@ -1,6 +1,7 @@
 -- A key comes to stand in a queue.
 use Rattle.std.proofs.Common.{arith, ◌≡◌, ◌<◌, ◌≤◌, ◌+◌, inl, inr, ℕ, zero, suc, Bool, true, false, List, [], ◌∷◌, ◌++◌, length, Option, Some, None, Result, Ok, Err, refl, sym, ap, subst, ◌∙◌}
-use Rattle.std.specs.Prelude.{if◌then◌else◌, is_ok, not, OnErr, slice_set}
+use Rattle.std.specs.Prelude.{if◌then◌else◌, is_ok, nat_le, not, OnErr, slice_set}
+use Rattle.std.proofs.lemmas.Bool.Decides.{nat_tests}
 use Rattle.std.specs.Option.{option_map}
 use Rattle.std.specs.VecDeque.{deque_capacity}
 use Rattle.slab.specs.Slab as slots
@@ -9,8 +10,22 @@ use Rattle.fwd_reader.specs.declared.peer.Peer.TheVariants as kind
 use Rattle.fwd_reader.specs.declared.connections.Connections.{Connections}
 use Rattle.fwd_reader.specs.declared.connections.OpenConnection.{OpenConnection}
 use Rattle.fwd_reader.specs.OpenConnections.{connection_at, connection_in, is_source}
-use Rattle.fwd_reader.specs.Queues.{Queues, IsAsked, IsWritten, Retries, RetriesAll, RetriesFirst, is_queued_at, is_ready_at, made_ready, made_unqueued, put_at, with_changed}
+use Rattle.fwd_reader.specs.Queues.{Queues, IsAsked, IsWritten, Retries, RetriesAll, RetriesFirst, is_queued_at, is_ready_at, kept_at, made_kept, made_ready, made_unqueued, put_at, with_changed}
 use Rattle.fwd_reader.proofs.Standing.{changed, updated}
+
+-- the source at a key takes a place still, where so many do not already
+pub keeps_none : (kept limit key : ℕ) (opened : slots.Slab OpenConnection) → limit ≤ kept
+    → opened ≡ kept_at kept limit key opened
+keeps_none kept limit key opened many =
+    let is : nat_le limit kept ≡ true = grind (arith, nat_tests) in
+    sym (ap (λ b. if b then opened else with_changed opened key made_kept) is)
+
+-- or takes none
+pub keeps_one : (kept limit key : ℕ) (opened after : slots.Slab OpenConnection) → kept < limit
+    → after ≡ with_changed opened key made_kept → after ≡ kept_at kept limit key opened
+keeps_one kept limit key opened after few is =
+    let none : nat_le limit kept ≡ false = grind (arith, nat_tests) in
+    is ∙ sym (ap (λ b. if b then opened else with_changed opened key made_kept) none)
 
 -- it is put there, or there is no room
 pub pushed : {E : Type 0} (result : Result (Unit {0}) E) (flag : Option Bool) (key capacity len : ℕ)

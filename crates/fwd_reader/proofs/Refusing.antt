@@ -33,7 +33,7 @@ all_same [] = tt
 all_same (s ∷ ss) = ((same_store s.few, same_store s.many), all_same ss)
 
 -- and where those of one are as they were
-pub same_at : (xs : List OutputRoute) (n : ℕ) (x y : OutputRoute) → n < length xs
+pub same_at : {J : Type 0} (xs : List (OutputRoute J)) (n : ℕ) (x y : OutputRoute J) → n < length xs
     → x ≡ get_or xs n x → AreSame x.open_tickets y.open_tickets
     → AreAllSame (stores_of xs) (stores_of (slice_set xs n y))
 same_at [] n x y lt is same = absurd (omega arith)
@@ -45,7 +45,7 @@ same_at (z ∷ zs) (suc n) x y lt is same = (
 )
 
 -- no output stands at a place behind all
-pub none_there : (xs : List OutputRoute) (n : ℕ) → length xs ≤ n
+pub none_there : {J : Type 0} (xs : List (OutputRoute J)) (n : ℕ) → length xs ≤ n
     → slice_get (stores_of xs) n ≡ None
 none_there [] n le = refl
 none_there (x ∷ xs) zero le = absurd (omega arith)

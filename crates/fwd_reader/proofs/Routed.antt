@@ -1,17 +1,21 @@
 -- That the tickets of an output are of the output that the routes name first for their tags.
-use Rattle.std.proofs.Common.{◌≡◌, ◌++◌, inl, inr, ℕ, Bool, true, false, List, [], ◌∷◌, Option, Some, None, sym, subst}
-use Rattle.std.specs.Prelude.{All, map, if◌then◌else◌}
+use Rattle.std.proofs.Common.{◌≡◌, ◌∙◌, ◌++◌, inl, inr, ℕ, Bool, true, false, List, [], ◌∷◌, Option, Some, None, sym, subst}
+use Rattle.std.specs.Prelude.{All, Contains, map, if◌then◌else◌}
 use Rattle.std.specs.Ordering.{is_eq, nat_cmp}
-use Rattle.std.proofs.lemmas.List.Elements.{All-append, All-cons, All-head, All-nil, All-tail, All-push}
+use Rattle.std.proofs.lemmas.List.Elements.{All-append, All-cons, All-contains_itself, All-head, All-nil, All-tail, All-push, All-weaker}
 use Rattle.std.proofs.lemmas.List.Sorted.{All-permutation}
+use Rattle.std.proofs.lemmas.Option.{same_Some}
+use Rattle.fwd_history.specs.Histories.{Comes}
+use Rattle.fwd_match.specs.Patterns.{route}
 use Rattle.fwd_book.specs.History.{BookSetting}
 use Rattle.fwd_book.specs.Receipts.{Receipt}
+use Rattle.fwd_output.specs.RunEvents.{RunEvent, AreGivenAfter}
 use Rattle.fwd_output.specs.Tickets.{Ticket, IsRight, ticket_of}
 use Rattle.fwd_reader.specs.Stores.{Stored, Held, held_in, AreHeld, IsSame, IsKept, IsSettled, FindsLeast, Looks, HandsOver, with_ticket, with_due, none_kept, last_chunk}
 use Rattle.fwd_reader.specs.declared.open_tickets.OpenTickets.{OpenTickets}
 use Rattle.fwd_reader.specs.OpenTickets.{AreSame, AreAllDue, Keeps}
-use Rattle.fwd_reader.specs.Collections.{ComeBack, IsHandedIn, IsRefused, AreHandedIn, AreRefused}
-use Rattle.fwd_reader.specs.Promises.{IsRouted, AreRouted, HoldsRouted, IsPromised}
+use Rattle.fwd_reader.specs.Collections.{AreGiven, AreGivenFor, ComeBack, IsHandedIn, IsRefused, AreHandedIn, AreRefused}
+use Rattle.fwd_reader.specs.Promises.{IsRouted, AreRouted, HoldsRouted, IsGivenIn, IsPromised}
 
 module _ (routes : List (List (List ℕ))) where
   abbrev Routed : List Ticket → Type 0
@@ -83,7 +87,7 @@ module _ (routes : List (List (List ℕ))) where
       → AreRouted routes (held_in t)
   settled s t chunk is all =
       elim is.moved [
-        | inl due ↦ held (with_due (held_in s) chunk) (held_in t) due (moved (held_in s) chunk all)
+        | inl due ↦ held (with_due (held_in s) chunk) (held_in t) due.0 (moved (held_in s) chunk all)
         | inr same ↦ held (held_in s) (held_in t) same.0 all
       ]
 
@@ -125,30 +129,76 @@ module _ (routes : List (List (List ℕ))) where
         late = All-append (IsRouted routes) s.late tickets all.late come;
       })
 
-  -- receipts for tickets that are of the first output for their tags
-  promised : (setting : BookSetting) (rs : List Receipt) → Routed (map (ticket_of setting) rs)
-      → All (λ r. IsRight r (ticket_of setting r)) rs → All (IsPromised routes) rs
-  promised setting [] of right = All-nil (IsPromised routes)
-  promised setting (r ∷ rs) of right =
-      All-cons (IsPromised routes) r rs
+  -- receipts that an output gives after a history are given there
+  given_there : (past before : List RunEvent) (setting : BookSetting) (rs : List Receipt)
+      → AreGivenAfter before setting rs → Comes before past
+      → All (IsGivenIn past setting.output) rs
+  given_there past before setting rs given begins =
+      All-weaker (Contains rs) (IsGivenIn past setting.output)
+      (λ r at. record {
+        before = before;
+        begins = begins;
+        history = given.history;
+        at = given.at;
+        origins = given.origins;
+        given = subst (λ gs. Contains gs r) given.is at;
+      })
+      rs (All-contains_itself rs)
+
+  -- receipts for tickets that are of the first output for their tags, which that output gives
+  promised : (past : List RunEvent) (setting own : BookSetting) (rs : List Receipt)
+      → Routed (map (ticket_of setting) rs) → All (λ r. IsRight r (ticket_of setting r)) rs
+      → Routed (map (ticket_of own) rs) → All (IsGivenIn past own.output) rs
+      → All (IsPromised routes past) rs
+  promised past setting own [] of right of_own given = All-nil (IsPromised routes past)
+  promised past setting own (r ∷ rs) of right of_own given =
+      let here : route routes r.tag ≡ Some setting.output =
+      All-head (IsRouted routes) (ticket_of setting r) (map (ticket_of setting) rs) of in
+      let there : route routes r.tag ≡ Some own.output =
+      All-head (IsRouted routes) (ticket_of own r) (map (ticket_of own) rs) of_own in
+      All-cons (IsPromised routes past) r rs
       (record {
         setting = setting;
-        routed = All-head (IsRouted routes) (ticket_of setting r) (map (ticket_of setting) rs) of;
+        routed = here;
         right = All-head (λ q. IsRight q (ticket_of setting q)) r rs right;
+        given = subst (λ n. IsGivenIn past n r)
+            (same_Some own.output setting.output (sym there ∙ here))
+            (All-head (IsGivenIn past own.output) r rs given);
       })
-      (promised setting rs (All-tail (IsRouted routes) (ticket_of setting r) (map (ticket_of setting) rs) of)
-      (All-tail (λ q. IsRight q (ticket_of setting q)) r rs right))
+      (promised past setting own rs
+      (All-tail (IsRouted routes) (ticket_of setting r) (map (ticket_of setting) rs) of)
+      (All-tail (λ q. IsRight q (ticket_of setting q)) r rs right)
+      (All-tail (IsRouted routes) (ticket_of own r) (map (ticket_of own) rs) of_own)
+      (All-tail (IsGivenIn past own.output) r rs given))
 
   -- tickets of a store are handed in
-  handed_in : (s t : Stored) (rs : List Receipt) → IsHandedIn s rs t → AreRouted routes (held_in s)
-      → All (IsPromised routes) rs × AreRouted routes (held_in t)
+  handed_in : (s t : Stored) (rs : List Receipt) (is : IsHandedIn s rs t) → AreRouted routes (held_in s)
+      → Routed (map (ticket_of is.setting) rs) × AreRouted routes (held_in t)
   handed_in s t rs is all =
       let over : Routed is.taken × AreRouted routes (held_in is.between) = handed s is.between is.taken is.handed all in
       let each : Routed (map (ticket_of is.setting) rs ++ is.back) = All-permutation (IsRouted routes) is.taken
       (map (ticket_of is.setting) rs ++ is.back) is.each over.0 in (
-        promised is.setting rs (front (map (ticket_of is.setting) rs) is.back each) is.right,
+        front (map (ticket_of is.setting) rs) is.back each,
         come_back is.between t is.back is.rest (back (map (ticket_of is.setting) rs) is.back each) over.1,
       )
+
+  -- and an output gives receipts for them
+  given_for : (before : List RunEvent) (s : Stored) (rs : List Receipt) (is : AreGivenFor before s rs)
+      → AreRouted routes (held_in s) → Routed (map (ticket_of is.setting) rs)
+  given_for before s rs is all =
+      let over : Routed is.taken × AreRouted routes (held_in is.between) = handed s is.between is.taken is.handed all in
+      let each : Routed (map (ticket_of is.setting) rs ++ is.back) = All-permutation (IsRouted routes) is.taken
+      (map (ticket_of is.setting) rs ++ is.back) is.each over.0 in
+      front (map (ticket_of is.setting) rs) is.back each
+
+  -- these are as promised
+  all_promised : (past before : List RunEvent) (s t u : Stored) (rs : List Receipt) → IsHandedIn s rs t
+      → AreGivenFor before u rs → Comes before past → AreRouted routes (held_in s)
+      → AreRouted routes (held_in u) → All (IsPromised routes past) rs
+  all_promised past before s t u rs is given begins all others =
+      promised past is.setting given.setting rs (handed_in s t rs is all).0 is.right
+      (given_for before u rs given others)
+      (given_there past before given.setting rs given.given begins)
 
   -- memory was refused
   refused : (s t : Stored) → IsRefused s t → AreRouted routes (held_in s) → AreRouted routes (held_in t)
@@ -197,17 +247,33 @@ module _ (routes : List (List (List ℕ))) where
 
   -- tickets of one of them are handed in
   pub open_tickets_handed : (s t : OpenTickets) (rs : List Receipt) → AreHandedIn s rs t → HoldsRouted routes s
-      → All (IsPromised routes) rs × HoldsRouted routes t
+      → HoldsRouted routes t
   open_tickets_handed s t rs is all =
       elim is [
-        | inl few ↦ (
-            let given : All (IsPromised routes) rs × AreRouted routes (held_in t.few) = handed_in s.few t.few rs few.0 all.few in
-            (given.0, record { few = given.1; many = same_backlog s.many t.many few.1 all.many })
-            )
-        | inr many ↦ (
-            let given : All (IsPromised routes) rs × AreRouted routes (held_in t.many) = handed_in s.many t.many rs many.0 all.many in
-            (given.0, record { few = same_backlog s.few t.few many.1 all.few; many = given.1 })
-            )
+        | inl few ↦ record {
+          few = (handed_in s.few t.few rs few.0 all.few).1;
+          many = same_backlog s.many t.many few.1 all.many;
+        }
+        | inr many ↦ record {
+          few = same_backlog s.few t.few many.1 all.few;
+          many = (handed_in s.many t.many rs many.0 all.many).1;
+        }
+      ]
+
+  -- the receipts for them are as promised
+  pub open_tickets_promised : (past before : List RunEvent) (s t : OpenTickets) (rs : List Receipt)
+      → AreHandedIn s rs t → AreGiven before s rs → Comes before past → HoldsRouted routes s
+      → All (IsPromised routes past) rs
+  open_tickets_promised past before s t rs is given begins all =
+      elim is [
+        | inl few ↦ elim given [
+          | inl own ↦ all_promised past before s.few t.few s.few rs few.0 own begins all.few all.few
+          | inr own ↦ all_promised past before s.few t.few s.many rs few.0 own begins all.few all.many
+        ]
+        | inr many ↦ elim given [
+          | inl own ↦ all_promised past before s.many t.many s.few rs many.0 own begins all.many all.few
+          | inr own ↦ all_promised past before s.many t.many s.many rs many.0 own begins all.many all.many
+        ]
       ]
 
   -- memory was refused for one of them

@@ -38,7 +38,7 @@ due_whole (suc n) [] le = refl
 due_whole (suc n) (s ∷ ss) le = ap (λ l. all_due s ∷ l) (due_whole n ss (omega arith))
 
 -- those of the output at a place are
-pub due_place : (xs : List OutputRoute) (n : ℕ) (x y : OutputRoute) → n < length xs
+pub due_place : {J : Type 0} (xs : List (OutputRoute J)) (n : ℕ) (x y : OutputRoute J) → n < length xs
     → x ≡ get_or xs n x → AreAllDue x.open_tickets y.open_tickets
     → stores_of (slice_set xs n y) ≡ due_at n (stores_of xs)
 due_place [] n x y lt is due = absurd (omega arith)
@@ -49,14 +49,14 @@ due_place (z ∷ zs) (suc n) x y lt is due =
     ap (λ l. z.open_tickets ∷ l) (due_place zs n x y (omega arith) is due)
 
 -- and none where none stands there
-pub due_nowhere : (xs : List OutputRoute) (n : ℕ) → length xs ≤ n
+pub due_nowhere : {J : Type 0} (xs : List (OutputRoute J)) (n : ℕ) → length xs ≤ n
     → stores_of xs ≡ due_at n (stores_of xs)
 due_nowhere [] n le = refl
 due_nowhere (x ∷ xs) zero le = absurd (omega arith)
 due_nowhere (x ∷ xs) (suc n) le = ap (λ l. x.open_tickets ∷ l) (due_nowhere xs n (omega arith))
 
 -- a chunk of the output at a place is settled
-pub settles : (xs : List OutputRoute) (n chunk : ℕ) (x y : OutputRoute) → n < length xs
+pub settles : {J : Type 0} (xs : List (OutputRoute J)) (n chunk : ℕ) (x y : OutputRoute J) → n < length xs
     → x ≡ get_or xs n x → AreSettled x.open_tickets chunk y.open_tickets
     → SettlesAt (stores_of xs) n chunk (stores_of (slice_set xs n y))
 settles xs n chunk x y lt is settled =
@@ -64,7 +64,7 @@ settles xs n chunk x y lt is settled =
     (sym (got xs n x lt is))
     (y.open_tickets, (settled, map-set (λ o. o.open_tickets) xs n y))
 
-pub settles_none : (xs : List OutputRoute) (n chunk : ℕ) → length xs ≤ n
+pub settles_none : {J : Type 0} (xs : List (OutputRoute J)) (n chunk : ℕ) → length xs ≤ n
     → SettlesAt (stores_of xs) n chunk (stores_of xs)
 settles_none xs n chunk le =
     subst (λ o. SettlesIn o (stores_of xs) n chunk (stores_of xs)) (sym (none_there xs n le)) refl
@@ -87,6 +87,6 @@ pub heard_last : (notices : List WorkerNotice) (i : ℕ) (s : List OpenTickets)
 heard_last notices i s le = subst (λ ns. HearsAll ns s s) (sym (drop_all i notices le)) refl
 
 -- each route has its tickets
-pub each_store : (xs : List OutputRoute) → length (stores_of xs) ≡ length xs
+pub each_store : {J : Type 0} (xs : List (OutputRoute J)) → length (stores_of xs) ≡ length xs
 each_store [] = refl
 each_store (x ∷ xs) = ap suc (each_store xs)

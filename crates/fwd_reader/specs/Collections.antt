@@ -3,6 +3,7 @@ use Rattle.std.specs.Prelude.{◌≡◌, ◌⊎◌, ◌≤◌, ℕ, true, List, 
 use Rattle.std.specs.List.Sorted.{IsPermutation}
 use Rattle.fwd_book.specs.History.{BookSetting}
 use Rattle.fwd_book.specs.Receipts.{Receipt}
+use Rattle.fwd_output.specs.RunEvents.{RunEvent, AreGivenAfter}
 use Rattle.fwd_output.specs.Tickets.{Ticket, IsRight, ticket_of}
 use Rattle.fwd_reader.specs.Stores.{Stored, HandsOver, IsQuiet, Looks}
 use Rattle.fwd_reader.specs.declared.open_tickets.OpenTickets.{OpenTickets}
@@ -25,6 +26,18 @@ pub record IsHandedIn (s : Stored) (receipts : List Receipt) (t : Stored) : Type
   pub right : All (λ r. IsRight r (ticket_of setting r)) receipts
   pub rest : ComeBack between back t
 
+-- Tickets that a store handed over are handed in at an output, and after a history it gives just
+-- the receipts that there are for them.
+pub record AreGivenFor (past : List RunEvent) (s : Stored) (receipts : List Receipt)
+    : Type 0 where
+  pub taken : List Ticket
+  pub between : Stored
+  pub handed : HandsOver s taken between
+  pub setting : BookSetting
+  pub back : List Ticket
+  pub each : IsPermutation taken (map (ticket_of setting) receipts ++ back)
+  pub given : AreGivenAfter past setting receipts
+
 -- Memory was refused. Nothing was handed over; or the tickets that were came back, all of them, and
 -- are to be handed in again.
 abbrev pub IsRefused : Stored → Stored → Type 0
@@ -38,6 +51,10 @@ abbrev pub AreHandedIn : OpenTickets → List Receipt → OpenTickets → Type 0
 AreHandedIn s receipts t =
     (IsHandedIn s.few receipts t.few × (t.many ≡ s.many) × ¬ (IsQuiet s.few))
     ⊎ (IsHandedIn s.many receipts t.many × (t.few ≡ s.few) × IsQuiet s.few)
+
+-- after a history an output gives the receipts for tickets of one of the stores
+abbrev pub AreGiven : List RunEvent → OpenTickets → List Receipt → Type 0
+AreGiven past s receipts = AreGivenFor past s.few receipts ⊎ AreGivenFor past s.many receipts
 
 -- memory was refused for tickets of one of the stores, and the other is as it was
 abbrev pub AreRefused : OpenTickets → OpenTickets → Type 0

@@ -12,15 +12,15 @@ abbrev pub upkeep_of : List Receipt → ℕ
 upkeep_of receipts = bounded (sum_by (λ r. upkeep r.tag r.chunk) receipts)
 
 -- what is owed at each output, in the settings' order
-abbrev pub owed_at_each : Admission → List ℕ
+abbrev pub owed_at_each : {J : Type 0} → Admission J → List ℕ
 owed_at_each a = map (λ line. line.owed.owed) a.lines.items
 
 -- how much may be owed at each
-abbrev pub limits_in : Admission → List ℕ
+abbrev pub limits_in : {J : Type 0} → Admission J → List ℕ
 limits_in a = map (λ line. line.owed.limit) a.lines.items
 
 -- a source that is owed so much may be owed more at the output of a number, by what is owed there
-abbrev pub MayOwe : Admission → (number own : ℕ) → Type 0
+abbrev pub MayOwe : {J : Type 0} → Admission J → (number own : ℕ) → Type 0
 MayOwe a number own =
     IfSome (slice_get a.lines.items number)
     (λ line. may_owe line.owed.limit line.owed.owed own ≡ true)

@@ -1,6 +1,6 @@
 -- The queues of connections that are ready, may be written, or wait. A key stands in each at most
 -- once: a flag of its connection tells that it does. This is seen of a call.
-use Rattle.std.specs.Prelude.{◌≡◌, ◌≤◌, ◌⊎◌, ◌||◌, ℕ, Bool, true, false, List, [], ◌∷◌, ◌++◌, length, Option, Some, None, option_map}
+use Rattle.std.specs.Prelude.{◌≡◌, ◌≤◌, ◌⊎◌, ◌||◌, ℕ, Bool, true, false, List, [], ◌∷◌, ◌++◌, length, nat_le, Option, Some, None, option_map, if◌then◌else◌}
 use Rattle.std.specs.VecDeque.{deque_capacity}
 use Rattle.slab.specs.Slab as slots
 use Rattle.fwd_reader.specs.declared.peer.Peer.{Peer}
@@ -63,6 +63,17 @@ waits_since (Some since) now = since
 abbrev pub made_queued : (now : ℕ) → OpenConnection → OpenConnection
 made_queued now o =
     record o { is_queued = true; waiting_since = Some (waits_since o.waiting_since now) }
+
+-- its other side is gone, and it takes no place
+abbrev pub made_kept : OpenConnection → OpenConnection
+made_kept o = record o { is_kept = true }
+
+-- the connections once the other side of the one at a key is gone: it takes no place, where fewer do
+-- not than may
+abbrev pub kept_at : (kept limit : ℕ) → (key : ℕ) → slots.Slab OpenConnection
+    → slots.Slab OpenConnection
+kept_at kept limit key opened =
+    if nat_le limit kept then opened else with_changed opened key made_kept
 
 -- no request of it waits any more
 abbrev pub waits_no_more : OpenConnection → OpenConnection

@@ -116,11 +116,12 @@ with_due s chunk = record s {
   due = s.due ++ s.waits chunk;
 }
 
--- A chunk is settled. Who waits for it is due; or memory was refused for that, and all are to be
--- handed in. Those that came back are to be handed in again.
+-- A chunk is settled. Who waits for it is due, and whether all are to be handed in stays. Or some
+-- wait and memory was refused for that, and all are to be handed in. Those that came back are to be
+-- handed in again.
 pub record IsSettled (s : Stored) (chunk : ℕ) (t : Stored) : Type 0 where
-  pub moved : AreHeld (with_due (held_in s) chunk) (held_in t)
-      ⊎ (AreHeld (held_in s) (held_in t) × (t.all_due ≡ true))
+  pub moved : (AreHeld (with_due (held_in s) chunk) (held_in t) × (t.all_due ≡ s.all_due))
+      ⊎ (AreHeld (held_in s) (held_in t) × (t.all_due ≡ true) × (waiting_in s.lists chunk ≢ []))
   pub all_stay : s.all_due ≡ true → t.all_due ≡ true
   pub again : s.late ≢ [] → t.late_due ≡ true
 

@@ -65,6 +65,7 @@ mod waiting_tally;
 use crate::output::Output;
 pub(crate) use eviction_candidate::EvictionCandidate;
 use full_report::{FullNews, FullReport};
+use fwd_history::Run;
 use fwd_monitors::{JournalEvent, Observer};
 use fwd_peers::SourcePeer;
 use reader_turns::ReaderTurns;
@@ -106,8 +107,8 @@ impl SharedAdmission {
 
 /// What a reader's sources ask for at each output, in the settings' order.
 #[derive(Drop)]
-pub(crate) struct Admission<'a> {
-    pub outputs: &'a [Output],
+pub(crate) struct Admission<'a, J: Run> {
+    pub outputs: &'a [Output<J>],
     /// The number of the reader whose they are.
     reader: usize,
     lines: Vec<SourceLine>,
@@ -115,13 +116,13 @@ pub(crate) struct Admission<'a> {
     is_moved: bool,
 }
 
-impl<'a> Admission<'a> {
+impl<'a, J: Run> Admission<'a, J> {
     /// None of the sources of the reader of this number waits. The only error is out of memory.
     pub fn new(
         alloc: Global,
-        outputs: &'a [Output],
+        outputs: &'a [Output<J>],
         reader: usize,
-    ) -> Result<Admission<'a>, AllocError>
+    ) -> Result<Admission<'a, J>, AllocError>
         ensures owed { IfOk result (λ admission.
             owed_at_each admission ≡ map (λ output. 0) outputs.now) }
         ensures limits { IfOk result (λ admission.

@@ -6,6 +6,7 @@ ghost use Rattle.std.specs.Prelude.{
   ◌-◌,
   ◌^◌,
   ◌≤◌,
+  ◌<◌,
   None,
   true,
   false,
@@ -31,6 +32,8 @@ pub struct FlushTimer {
     latest: u64,
     /// When the next flush is due: never while no chunk can be open.
     due: Option<u64>,
+    /// Until when nobody need look whether it is: what is due is left open.
+    rests: u64,
 }
 
 impl FlushTimer {
@@ -41,6 +44,7 @@ impl FlushTimer {
             is_fresh: false,
             latest: 0,
             due: None,
+            rests: 0,
         }
     }
 
@@ -71,11 +75,25 @@ impl FlushTimer {
         }
     }
 
-    /// When the next flush is due, if one is.
-    pub(crate) fn due(&self) -> Option<u64>
-        ensures { result ≡ self.now.due }
+    /// When to look next whether a flush is due, if one is to come.
+    pub(crate) fn next_look(&self) -> Option<u64>
+        ensures { result ≡ option_map (λ due. max due self.now.rests) self.now.due }
     {
-        self.due
+        match self.due {
+            None => None,
+            Some(due) => Some(due.max(self.rests)),
+        }
+    }
+
+    /// Whether a flush is due at this moment.
+    pub(crate) fn is_due(&self, now: u64) -> bool
+        ensures some { result ≡ true → IfSome self.now.due (λ due. due ≤ now) }
+        ensures none { result ≡ false → IfSome self.now.due (λ due. now < due) }
+    {
+        match self.due {
+            None => false,
+            Some(due) => due <= now,
+        }
     }
 
     /// Chunks were flushed at this moment, or are left to the workers to close, who do so before
@@ -97,16 +115,11 @@ impl FlushTimer {
         };
     }
 
-    /// What is due at this moment is left open for a while: no flush is due before the next moment.
-    pub(crate) fn wait_on(&mut self, now: u64)
-        ensures { self.new ≡ record self.old {
-          due = option_map (λ due. max due (min (now + 1) (2 ^ 64 - 1))) self.old.due;
-        } }
+    /// What is due at this moment is left open for a while: it is looked at again at the next one.
+    pub(crate) fn rest(&mut self, now: u64)
+        ensures { self.new ≡ record self.old { rests = min (now + 1) (2 ^ 64 - 1) } }
     {
-        self.due = match self.due {
-            None => None,
-            Some(due) => Some(due.max(now.saturating_add(1))),
-        };
+        self.rests = now.saturating_add(1);
     }
 
     /// Sources wait for room at this moment: the output is looked at again soon, also where what is

@@ -6,6 +6,8 @@ ghost use Rattle.std.specs.Prelude.{◌≡◌, ◌<◌, true, false, IfErr, IfOk
 ghost use Rattle.fwd_reader.specs.Stores.{IsSame, IsSettled, none_kept};
 ghost use Rattle.fwd_reader.specs.OpenTickets.{AreSame, AreAllDue, AreQuiet, Keeps};
 ghost use Rattle.fwd_reader.specs.Collections.{
+  AreGiven,
+  AreGivenFor,
   AreHandedIn,
   AreRefused,
   ComeBack,
@@ -16,7 +18,8 @@ ghost use Rattle.fwd_reader.specs.Collections.{
 use crate::output::Output;
 use crate::ticket_store::TicketStore;
 use fwd_book::Receipt;
-use fwd_output::Ticket;
+use fwd_history::Run;
+use fwd_output::{ReachedHistory, Ticket};
 use fwd_peers::SourcePeer;
 use std::alloc::{AllocError, Global};
 use std::sync::Wait;
@@ -103,16 +106,17 @@ impl OpenTickets {
 
     /// Hands in a block of the tickets that are due, of sources with many unanswered requests only
     /// where none of the others is, and answers what receipts there are: each is right for the
-    /// request of one of these tickets. The others come back. The only error is out of memory, and
-    /// then all come back, and are to be handed in still.
-    pub fn hand_in<R: Wait>(
+    /// request of one of these tickets. The others come back. Beside the receipts is the history of
+    /// the run, after which the output gives them. The only error is out of memory, and then all
+    /// come back, and are to be handed in still.
+    pub fn hand_in<J: Run, R: Wait>(
         &mut self,
         rt: &R,
         alloc: Global,
-        output: &Output,
-    ) -> Result<Vec<Receipt>, AllocError>
-        ensures given { IfOk result (λ receipts.
-            AreHandedIn self.old receipts.items self.new) }
+        output: &Output<J>,
+    ) -> Result<(Vec<Receipt>, ReachedHistory<J>), AllocError>
+        ensures given { IfOk result (λ p. AreHandedIn self.old p.0.items self.new) }
+        ensures reached { IfOk result (λ p. AreGiven p.1 self.old p.0.items) }
         ensures kept { OnErr result (AreRefused self.old self.new) }
     {
         if self.few.is_due() {
@@ -123,7 +127,7 @@ impl OpenTickets {
     }
 
     /// The tickets that are left are abandoned.
-    pub fn close<R: Wait>(self, rt: &R, output: &Output) {
+    pub fn close<J: Run, R: Wait>(self, rt: &R, output: &Output<J>) {
         let OpenTickets { few, many } = self;
         few.close(rt, &output.shared);
         many.close(rt, &output.shared);
@@ -132,21 +136,21 @@ impl OpenTickets {
 
 /// Hands in a block of the tickets of a store that are due.
 #[tactic(auto, using(crate::proofs::Handing::refused, crate::proofs::Handing::none_handed))]
-fn hand_in<R: Wait>(
+fn hand_in<J: Run, R: Wait>(
     rt: &R,
     alloc: Global,
-    output: &Output,
+    output: &Output<J>,
     tickets: &mut TicketStore,
-) -> Result<Vec<Receipt>, AllocError>
-    ensures given { IfOk result (λ receipts.
-        IsHandedIn tickets.old receipts.items tickets.new) }
+) -> Result<(Vec<Receipt>, ReachedHistory<J>), AllocError>
+    ensures given { IfOk result (λ p. IsHandedIn tickets.old p.0.items tickets.new) }
+    ensures reached { IfOk result (λ p. AreGivenFor p.1 tickets.old p.0.items) }
     ensures kept { OnErr result (IsRefused tickets.old tickets.new) }
 {
     let due = tickets.take_due()?;
     match output.shared.collect(rt, alloc, due) {
-        Ok((receipts, back)) => {
+        Ok((receipts, back, reached)) => {
             put_back(tickets, back);
-            Ok(receipts)
+            Ok((receipts, reached))
         }
         Err((error, back)) => {
             put_back(tickets, back);

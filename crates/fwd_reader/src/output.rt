@@ -9,6 +9,7 @@ use crate::admission::SharedAdmission;
 use crate::subscribers::Subscribers;
 use fwd_base::Text;
 use fwd_chunks::Report;
+use fwd_history::Run;
 use fwd_links::WorkerWaker;
 use fwd_monitor::OutputFigures;
 use fwd_output::{Plain, SharedOutput};
@@ -24,12 +25,14 @@ const GATHERING: u64 = 1;
 
 /// An output that threads share, where its servers are reached, and what wakes its workers.
 #[derive(Drop)]
-pub struct Output {
-    pub shared: SharedOutput<Plain, Plain>,
+pub struct Output<J: Run> {
+    pub shared: SharedOutput<Plain<J>, Plain<J>>,
     pub servers: Vec<SocketAddr>,
     pub wakers: Vec<WorkerWaker>,
     /// The most bytes of entries that it holds.
     pub total: u64,
+    /// The most bytes of entries of a chunk.
+    pub chunk: u64,
     /// Sources wait where it is full, and are not closed.
     pub waits_when_full: bool,
     /// Which readers are to hear of its settled chunks.
@@ -39,7 +42,7 @@ pub struct Output {
 }
 
 /// Why a source is closed, whose request has so many bytes, at one of these outputs.
-pub(crate) fn sized(outputs: &[Output], why: CloseReason, bytes: u64) -> CloseReason
+pub(crate) fn sized<J: Run>(outputs: &[Output<J>], why: CloseReason, bytes: u64) -> CloseReason
     ensures { (limit : ℕ) × (result ≡ peers.sized why bytes limit) }
 {
     let CloseReason::Refused(output, _) = why else {
@@ -51,10 +54,16 @@ pub(crate) fn sized(outputs: &[Output], why: CloseReason, bytes: u64) -> CloseRe
     }
 }
 
-impl Output {
+impl<J: Run> Output<J> {
     /// Whether it has no entries.
     pub fn is_empty<R: Wait>(&self, rt: &R) -> bool {
         self.shared.counts(rt).held == 0
+    }
+
+    /// Whether a chunk may have been closed by its size: the output holds more bytes of entries than
+    /// a chunk has at most.
+    pub(crate) fn has_more_than_a_chunk<R: Wait>(&self, rt: &R) -> bool {
+        self.shared.counts(rt).bytes > self.chunk
     }
 
     /// Whether there are several readers.
@@ -68,15 +77,16 @@ impl Output {
     }
 
     /// For how long chunks that are due are left open where a worker looks for one, in
-    /// milliseconds: `GATHERING` while a worker has one that is not acknowledged.
-    pub fn leaves_open(&self) -> u64
+    /// milliseconds: `GATHERING` while a worker is at work, other than the one of this number.
+    pub fn leaves_open(&self, beside: Option<u16>) -> u64
         ensures { result ≤ GATHERING }
     {
-        if self.wakers.iter().any(|waker| waker.has_chunk()) {
-            GATHERING
-        } else {
-            0
+        for (number, waker) in (0..u16::MAX).zip(&self.wakers) {
+            if waker.is_busy() && beside != Some(number) {
+                return GATHERING;
+            }
         }
+        0
     }
 
     /// Wakes the output's workers that look for a chunk, one for each of so many chunks.
@@ -107,10 +117,10 @@ fn age_at(now: u64, since: Option<u64>) -> u64
 /// The most bytes of entries that each output holds, how old its oldest chunk is at a moment
 /// (milliseconds), and what waits there, in their order, without their patterns. Each is locked by
 /// itself for a moment. The only error is out of memory.
-pub(crate) fn figures_of<R: Wait>(
+pub(crate) fn figures_of<J: Run, R: Wait>(
     rt: &R,
     alloc: Global,
-    outputs: &[Output],
+    outputs: &[Output<J>],
     now: u64,
 ) -> Result<Vec<OutputFigures>, AllocError>
     ensures { IfOk result (λ figures. map (λ f. f.total_limit) figures.items
@@ -131,10 +141,10 @@ pub(crate) fn figures_of<R: Wait>(
 
 /// What each output has to do with, in all and of each tag, in their order. Each is locked by
 /// itself for a moment. The only error is out of memory.
-pub fn reports_of<R: Wait>(
+pub fn reports_of<J: Run, R: Wait>(
     rt: &R,
     alloc: Global,
-    outputs: &[Output],
+    outputs: &[Output<J>],
 ) -> Result<Vec<Report>, AllocError>
     ensures count { IfOk result (λ reports. length reports.items ≡ length outputs.now) }
     ensures add_up { IfOk result (λ reports. AddUp reports.items) }

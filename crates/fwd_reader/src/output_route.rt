@@ -1,6 +1,7 @@
 //! An output as the loop sees it.
 
 ghost use Rattle.std.specs.Prelude.{◌≡◌, ℕ, List, true, false, OnOk, OnErr};
+ghost use Rattle.fwd_history.specs.Histories.{Comes};
 ghost use Rattle.fwd_reader.specs.Admissions.{KeepsTicketOf, silent_entries};
 ghost use Rattle.fwd_reader.specs.OpenTickets.{AreSame};
 ghost use Rattle.fwd_reader.specs.Answering.{AnswersSome};
@@ -15,9 +16,10 @@ use crate::open_tickets::{Backlog, OpenTickets};
 use crate::output::Output;
 use fwd_book::{AdmitRefusal, Receipt};
 use fwd_chunks::FlushKind;
+use fwd_history::Run;
 use fwd_modes::{Batch, Origin};
 use fwd_monitors::Accepted;
-use fwd_output::Ticket;
+use fwd_output::{ReachedHistory, Ticket};
 use fwd_peers::upkeep;
 use std::alloc::{AllocError, Global};
 use std::mem;
@@ -62,9 +64,9 @@ fn kind_of(is_urgent: bool) -> FlushKind
 }
 
 /// An output, the tickets that it gave, and when it is flushed. It must be spent: by `close`.
-pub(crate) struct OutputRoute<'a> {
+pub(crate) struct OutputRoute<'a, J: Run> {
     alloc: Global,
-    output: &'a Output,
+    output: &'a Output<J>,
     pub open_tickets: OpenTickets,
     pub timer: &'a mut FlushTimer,
     /// The greatest number of a chunk that requests went to.
@@ -73,9 +75,13 @@ pub(crate) struct OutputRoute<'a> {
     accepted: Accepted,
 }
 
-impl<'a> OutputRoute<'a> {
+impl<'a, J: Run> OutputRoute<'a, J> {
     /// An output that gave no tickets yet.
-    pub fn new(alloc: Global, output: &'a Output, timer: &'a mut FlushTimer) -> OutputRoute<'a>
+    pub fn new(
+        alloc: Global,
+        output: &'a Output<J>,
+        timer: &'a mut FlushTimer,
+    ) -> OutputRoute<'a, J>
         ensures { (routes : List (List (List ℕ))) → HoldsRouted routes result.open_tickets }
     {
         OutputRoute {
@@ -123,7 +129,7 @@ impl<'a> OutputRoute<'a> {
             shared.abandon(rt, ticket);
             return Err(AdmitRefusal::NotNow);
         }
-        self.wake_for(&ticket);
+        self.wake_for(rt, &ticket);
         match self.open_tickets.keep(backlog, ticket) {
             Ok(()) => Ok(()),
             Err(ticket) => {
@@ -134,9 +140,9 @@ impl<'a> OutputRoute<'a> {
     }
 
     /// Wakes a worker where a request may have closed a chunk by its size. That happens only where
-    /// the next chunk of a tag is opened, which has a greater number than all before it. So has the
-    /// first chunk of a tag, which closes none: each chunk wakes at most once here.
-    fn wake_for(&mut self, ticket: &Ticket)
+    /// the next chunk of a tag is opened, which has a greater number than all before it, and where
+    /// the output holds more than a chunk. Each chunk wakes at most once here.
+    fn wake_for<R: Wait>(&mut self, rt: &R, ticket: &Ticket)
         ensures tickets { self.new.open_tickets ≡ self.old.open_tickets }
         ensures timer { self.new.timer ≡ self.old.timer }
     {
@@ -149,7 +155,9 @@ impl<'a> OutputRoute<'a> {
         };
         if is_new {
             self.newest = Some(last.number);
-            self.output.wake(1);
+            if self.output.has_more_than_a_chunk(rt) {
+                self.output.wake(1);
+            }
         }
     }
 
@@ -163,12 +171,12 @@ impl<'a> OutputRoute<'a> {
     {
         let moment = now.saturating_sub(self.left_open(is_urgent));
         self.timer.look(now);
-        let is_due = self.timer.due().is_some_and(|due| due <= moment);
+        let is_due = self.timer.is_due(moment);
         if is_due {
             self.timer.flushed(moment);
         }
         if moment < now {
-            self.timer.wait_on(now);
+            self.timer.rest(now);
         }
         if !is_due && !is_urgent {
             return;
@@ -187,20 +195,22 @@ impl<'a> OutputRoute<'a> {
         if is_urgent || !self.output.is_awaited() {
             0
         } else {
-            self.output.leaves_open()
+            self.output.leaves_open(None)
         }
     }
 
     /// Hands in tickets that are due, block by block, and tells the sources of their receipts: some
     /// hundred, the others when it is called again. It is added up what the requests took beside
-    /// their entries that are answered, in bytes. The only error is out of memory, and then those
-    /// that were last handed in are to be handed in still.
+    /// their entries that are answered, in bytes, and what is known of the run's history goes on to
+    /// where the output gave them. The only error is out of memory, and then those that were last
+    /// handed in are to be handed in still.
     #[tactic(auto, using(crate::proofs::Told::nothing, crate::proofs::Told::no_round))]
     pub fn collect<R: Wait>(
         &mut self,
         rt: &R,
         connections: &mut Connections,
         answered: &mut u64,
+        reached: &mut ReachedHistory<J>,
     ) -> Result<(), AllocError>
         ensures each { OnOk result (Collects
             self.old.open_tickets (sources_in connections.old)
@@ -218,13 +228,17 @@ impl<'a> OutputRoute<'a> {
             → HoldsRouted routes self.new.open_tickets }
         ensures promised { (routes : List (List (List ℕ)))
             → HoldsRouted routes self.old.open_tickets
-            → TellsPromised routes (sources_in connections.old) (sources_in connections.new) }
+            → TellsPromised routes reached.new
+            (sources_in connections.old) (sources_in connections.new) }
+        ensures onward { Comes reached.old reached.new }
     {
         for _ in 0..BLOCKS {
             if !self.open_tickets.is_due() {
                 break;
             }
-            let receipts = self.open_tickets.hand_in(rt, self.alloc, self.output)?;
+            let handed = self.open_tickets.hand_in(rt, self.alloc, self.output)?;
+            let (receipts, given) = handed;
+            *reached = reached.with(&given);
             connections.tell_all(&receipts);
             *answered = answered.saturating_add(upkeep_of(&receipts));
         }

@@ -2,20 +2,21 @@
 
 use crate::output::{Output, figures_of, reports_of};
 use fwd_chunks::Report;
+use fwd_history::Run;
 use fwd_monitor::OutputFigures;
 use fwd_monitors::{PageSource, SharedTally, add_output, nothing_counted};
 use std::alloc::{AllocError, Global};
 use std::sync::Wait;
 
 /// What pages are made of.
-#[derive(Clone, Copy)]
-pub struct PageParts<'a> {
-    pub outputs: &'a [Output],
+#[derive_where(Clone, Copy)]
+pub struct PageParts<'a, J: Run> {
+    pub outputs: &'a [Output<J>],
     /// What was counted.
     pub tally: &'a SharedTally,
 }
 
-impl<'a> PageSource for PageParts<'a> {
+impl<'a, J: Run> PageSource for PageParts<'a, J> {
     fn figures<R: Wait>(
         &self,
         rt: &R,
@@ -36,9 +37,9 @@ impl<'a> PageSource for PageParts<'a> {
 
 /// Nothing was counted of these outputs; and nothing will be, where it is not kept. The only error
 /// is out of memory.
-pub fn tally_of(
+pub fn tally_of<J: Run>(
     alloc: Global,
-    outputs: &[Output],
+    outputs: &[Output<J>],
     is_kept: bool,
 ) -> Result<SharedTally, AllocError> {
     let mut tally = nothing_counted(alloc);

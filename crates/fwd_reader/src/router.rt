@@ -41,10 +41,12 @@ use crate::output::{Output, sized};
 use crate::output_route::OutputRoute;
 use fwd_book::AdmitRefusal;
 use fwd_environment::WorkerEvent;
+use fwd_history::Run;
 use fwd_links::Notices;
 use fwd_match::Routes;
 use fwd_modes::{Batch, Origin};
 use fwd_monitors::{Accepted, Observer, SharedTally};
+use fwd_output::ReachedHistory;
 use fwd_peers::{CloseReason, SourcePeer, upkeep};
 use std::alloc::{AllocError, AllocFailed, Global};
 use std::marker::Model;
@@ -65,17 +67,19 @@ enum NotAdmitted {
 }
 
 /// The outputs, in the settings' order, and which tags go to which. They must be spent: by `close`.
-pub struct Router<'a> {
+pub struct Router<'a, J: Run> {
     alloc: Global,
     routes: &'a Routes,
     /// Who may enter each output, and who waits.
-    admission: Admission<'a>,
-    all: Vec<OutputRoute<'a>>,
+    admission: Admission<'a, J>,
+    all: Vec<OutputRoute<'a, J>>,
     /// Nothing is ever put into it: where memory is refused for receipts it is given back.
     reserve: Vec<u8>,
+    /// The history of the run as far as it is known here, for the proof.
+    reached: ReachedHistory<J>,
 }
 
-impl<'a> Model for Router<'a> {
+impl<'a, J: Run> Model for Router<'a, J> {
     ghost use Rattle.std.specs.Prelude.{All};
     ghost use Rattle.fwd_reader.specs.Owing.{owed_at_each};
     ghost use Rattle.fwd_reader.specs.Routers.{RouterShown, stores_of};
@@ -87,13 +91,14 @@ impl<'a> Model for Router<'a> {
       routes = o.routes.now;
       stores = stores_of o.all.items;
       owed = owed_at_each o.admission;
+      reached = o.reached;
     } };
 
     ghost invariant = { λ o. All (HoldsRouted o.routes.now) (stores_of o.all.items) };
 }
 
 /// The outputs' tickets are abandoned.
-fn close_all<R: Wait>(rt: &R, router: Vec<OutputRoute<'_>>) {
+fn close_all<J: Run, R: Wait>(rt: &R, router: Vec<OutputRoute<'_, J>>) {
     let mut rest = router.into_iter();
     while let Some(output_route) = rest.next() {
         output_route.close(rt);
@@ -101,32 +106,35 @@ fn close_all<R: Wait>(rt: &R, router: Vec<OutputRoute<'_>>) {
     rest.destroy_empty();
 }
 
-/// What a router is made of: the number of its reader, where requests go, and the timer of each
-/// output.
+/// What a router is made of: the number of its reader, where requests go, the timer of each output,
+/// and the history of the run as far as it is known.
 #[derive(Drop)]
-pub struct RouterParts<'a> {
+pub struct RouterParts<'a, J: Run> {
     pub reader: usize,
     pub routes: &'a Routes,
-    pub outputs: &'a [Output],
+    pub outputs: &'a [Output<J>],
     pub timers: &'a mut [FlushTimer],
+    pub reached: ReachedHistory<J>,
 }
 
-impl<'a> Router<'a> {
+impl<'a, J: Run> Router<'a, J> {
     /// The outputs as a reader sees them, where no ticket is out. The only error is out of memory.
     pub fn new<R: Wait>(
         rt: &R,
         alloc: Global,
-        parts: RouterParts<'a>,
-    ) -> Result<Router<'a>, AllocError>
+        parts: RouterParts<'a, J>,
+    ) -> Result<Router<'a, J>, AllocError>
         ensures routes { IfOk result (λ router. router.routes ≡ parts.entry.routes.now) }
         ensures owed { IfOk result (λ router.
             router.owed ≡ map (λ output. 0) parts.entry.outputs.now) }
+        ensures reached { IfOk result (λ router. router.reached ≡ parts.entry.reached) }
     {
         let RouterParts {
             reader,
             routes,
             outputs,
             timers,
+            reached,
         } = parts;
         let admission = Admission::new(alloc, outputs, reader)?;
         let mut all = Vec::new(alloc);
@@ -151,6 +159,7 @@ impl<'a> Router<'a> {
             admission,
             all,
             reserve,
+            reached,
         })
     }
 
@@ -309,7 +318,7 @@ impl<'a> Router<'a> {
             if output_route.open_tickets.is_due() {
                 return 0;
             }
-            if let Some(due) = output_route.timer.due() {
+            if let Some(due) = output_route.timer.next_look() {
                 wait = wait.min(due.saturating_sub(now));
             }
         }
@@ -412,6 +421,7 @@ impl<'a> Router<'a> {
         ensures due { self.new.stores ≡ map all_due self.old.stores }
         ensures routes { self.new.routes ≡ self.old.routes }
         ensures owed { self.new.owed ≡ self.old.owed }
+        ensures reached { self.new.reached ≡ self.old.reached }
     {
         self.note_moved();
         for place in 0..self.all.len() {
@@ -424,6 +434,7 @@ impl<'a> Router<'a> {
         ensures due { self.new.stores ≡ due_at place self.old.stores }
         ensures routes { self.new.routes ≡ self.old.routes }
         ensures owed { self.new.owed ≡ self.old.owed }
+        ensures reached { self.new.reached ≡ self.old.reached }
     {
         let Some(output_route) = self.all.get_mut(place) else {
             return;
@@ -439,6 +450,7 @@ impl<'a> Router<'a> {
             admission: _,
             all,
             reserve: _,
+            reached: _,
         } = self;
         close_all(rt, all);
     }

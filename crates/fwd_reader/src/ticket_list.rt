@@ -12,11 +12,13 @@ ghost use Rattle.std.specs.Prelude.{
   IfErr,
   IfSome,
   IfNone,
+  IsOk,
   OnOk,
   OnErr,
 };
 ghost use Rattle.std.specs.List.{flat_map};
 
+use fwd_history::Run;
 use fwd_output::{Plain, SharedOutput, Ticket};
 use std::alloc::{AllocError, AllocFailed, Global};
 use std::collections::VecDeque;
@@ -109,11 +111,15 @@ impl TicketList {
     }
 
     /// Takes another list's tickets behind its own. The only error is out of memory, and then both
-    /// are as they were.
+    /// are as they were. Where that list has none, no memory is needed.
     pub fn append(&mut self, list: &mut TicketList) -> Result<(), AllocError>
         ensures added { OnOk result ((self.new ≡ self.old ++ list.old) × (list.new ≡ [])) }
+        ensures none { list.old ≡ [] → IsOk result }
         ensures same { OnErr result ((self.new ≡ self.old) × (list.new ≡ list.old)) }
     {
+        if list.is_empty() {
+            return Ok(());
+        }
         self.full.reserve(list.full.len().saturating_add(1))?;
         let block = mem::replace(&mut self.last, Vec::new(self.alloc));
         if block.is_empty() {
@@ -169,7 +175,7 @@ impl TicketList {
     }
 
     /// Nobody is to be told of the requests of these tickets any more.
-    pub fn abandon<R: Wait>(self, rt: &R, output: &SharedOutput<Plain, Plain>) {
+    pub fn abandon<J: Run, R: Wait>(self, rt: &R, output: &SharedOutput<Plain<J>, Plain<J>>) {
         let TicketList {
             alloc: _,
             full,
@@ -181,9 +187,9 @@ impl TicketList {
 }
 
 /// Nobody is to be told of the requests of the tickets of these blocks any more.
-pub(crate) fn abandon_blocks<R: Wait>(
+pub(crate) fn abandon_blocks<J: Run, R: Wait>(
     rt: &R,
-    output: &SharedOutput<Plain, Plain>,
+    output: &SharedOutput<Plain<J>, Plain<J>>,
     blocks: VecDeque<Vec<Ticket>>,
 ) {
     let mut rest = blocks;
@@ -194,7 +200,11 @@ pub(crate) fn abandon_blocks<R: Wait>(
 }
 
 /// Nobody is to be told of the requests of these tickets any more.
-pub fn abandon_all<R: Wait>(rt: &R, output: &SharedOutput<Plain, Plain>, tickets: Vec<Ticket>) {
+pub fn abandon_all<J: Run, R: Wait>(
+    rt: &R,
+    output: &SharedOutput<Plain<J>, Plain<J>>,
+    tickets: Vec<Ticket>,
+) {
     let mut rest = tickets.into_iter();
     while let Some(ticket) = rest.next() {
         output.abandon(rt, ticket);

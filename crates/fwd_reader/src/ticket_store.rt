@@ -34,6 +34,7 @@ mod waiting;
 use self::waiting::WaitingTickets;
 use crate::ticket_list::{TicketList, abandon_blocks};
 use fwd_chunks::Span;
+use fwd_history::Run;
 use fwd_output::{Plain, SharedOutput, Ticket};
 use std::alloc::{AllocError, Global};
 use std::collections::VecDeque;
@@ -227,7 +228,7 @@ impl TicketStore {
     }
 
     /// The tickets that are left are abandoned.
-    pub fn close<R: Wait>(self, rt: &R, output: &SharedOutput<Plain, Plain>) {
+    pub fn close<J: Run, R: Wait>(self, rt: &R, output: &SharedOutput<Plain<J>, Plain<J>>) {
         let TicketStore {
             alloc: _,
             mut waiting,

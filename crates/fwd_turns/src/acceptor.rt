@@ -5,6 +5,7 @@ ghost use Rattle.fwd_turns.specs.Ids.{IsNoLess};
 
 use crate::places::{PlaceRule, free_place, is_crowded};
 use fwd_handshake::{Nonces, Security};
+use fwd_history::Run;
 use fwd_listeners::tokens::{MONITORS as MONITOR_TOKEN, SOURCES};
 use fwd_listeners::{Arrival, Listener};
 use fwd_monitors::{JournalEvent, ListenerKind, MemoryFor, MonitorPeer, Observer, StartFault};
@@ -99,12 +100,12 @@ impl Drop for Acceptor {
 
 /// Where connections go that come at a moment.
 #[derive(Drop)]
-pub(crate) struct Incoming<'a, 'p, 'r> {
+pub(crate) struct Incoming<'a, 'p, 'r, J: Run> {
     pub alloc: Global,
     pub registry: &'a Registry,
     pub connections: &'a mut Connections,
     /// Where sources of the reader in front may wait.
-    pub router: &'p mut Router<'r>,
+    pub router: &'p mut Router<'r, J>,
     /// The inboxes of all readers.
     pub inboxes: &'a ReaderInboxes,
     /// How long a source has to be silent that gives its place to a new one (milliseconds), if any
@@ -114,7 +115,7 @@ pub(crate) struct Incoming<'a, 'p, 'r> {
     pub now: u64,
 }
 
-impl<'a, 'p, 'r> Incoming<'a, 'p, 'r> {
+impl<'a, 'p, 'r, J: Run> Incoming<'a, 'p, 'r, J> {
     /// A connection comes. Where the system or memory refuses it, which is the only error, it is
     /// dropped.
     fn add(&mut self, connection: Peer) -> Result<(), AllocError> {
@@ -197,10 +198,10 @@ impl Acceptor {
     /// Takes the sources that wait. One too many takes the place of one that is idle, or is closed
     /// at once. It says whether memory was refused for one.
     #[tactic(auto, using(crate::proofs::Ids::later, crate::proofs::Ids::same))]
-    pub fn accept_sources<R: Wait, W: Observer>(
+    pub fn accept_sources<J: Run, R: Wait, W: Observer>(
         &mut self,
         rt: &R,
-        incoming: &mut Incoming<'_, '_, '_>,
+        incoming: &mut Incoming<'_, '_, '_, J>,
         observer: &mut W,
     ) -> bool
         ensures { IsNoLess self.old.next_id self.new.next_id }
@@ -230,10 +231,10 @@ impl Acceptor {
     /// whether one does. Where none does, the other readers are asked to do so in their next turns,
     /// and none is looked for again within the millisecond. One list of all readers' sources would
     /// be a lock that each read takes.
-    fn free_place<R: Wait, W: Observer>(
+    fn free_place<J: Run, R: Wait, W: Observer>(
         &mut self,
         rt: &R,
-        incoming: &mut Incoming<'_, '_, '_>,
+        incoming: &mut Incoming<'_, '_, '_, J>,
         observer: &mut W,
     ) -> bool
         ensures { self.new.next_id ≡ self.old.next_id }
@@ -270,9 +271,9 @@ impl Acceptor {
     }
 
     /// A source with the next id, if one is left. The only error is out of memory.
-    fn next_source(
+    fn next_source<J: Run>(
         &mut self,
-        incoming: &Incoming<'_, '_, '_>,
+        incoming: &Incoming<'_, '_, '_, J>,
         socket: PeerSocket,
         peer: PeerAddress,
     ) -> Result<Option<SourcePeer>, AllocError>
@@ -293,10 +294,10 @@ impl Acceptor {
     /// A source begins with the next id, if one is left, at the reader with the fewest. The only
     /// error is out of memory.
     #[tactic(auto, using(crate::proofs::Ids::same))]
-    fn begin<R: Wait>(
+    fn begin<J: Run, R: Wait>(
         &mut self,
         rt: &R,
-        incoming: &Incoming<'_, '_, '_>,
+        incoming: &Incoming<'_, '_, '_, J>,
         socket: PeerSocket,
         peer: PeerAddress,
     ) -> Result<(), AllocError>
@@ -309,9 +310,9 @@ impl Acceptor {
     }
 
     /// Takes the monitors that wait. One too many is closed at once.
-    pub fn accept_monitors<W: Observer>(
+    pub fn accept_monitors<J: Run, W: Observer>(
         &mut self,
-        incoming: &mut Incoming<'_, '_, '_>,
+        incoming: &mut Incoming<'_, '_, '_, J>,
         observer: &mut W,
     ) {
         let Some(listener) = &mut self.monitors else {

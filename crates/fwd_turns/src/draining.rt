@@ -38,6 +38,7 @@ ghost use Rattle.fwd_turns.specs.Draining.{IfMore, IsDrained, left_of};
 
 use crate::reader::Reader;
 use crate::visiting::read_source;
+use fwd_history::Run;
 use fwd_listeners::ControlAnswer;
 use fwd_monitors::{JournalEvent, Observer};
 use fwd_peers::{LeaveStage, SourcePeer};
@@ -314,7 +315,7 @@ fn sooner(deadline: Option<u64>, other: u64) -> u64
 }
 
 /// How many entries these outputs hold. Each is locked by itself for a moment.
-fn held_in<R: Wait>(rt: &R, outputs: &[Output]) -> u64 {
+fn held_in<J: Run, R: Wait>(rt: &R, outputs: &[Output<J>]) -> u64 {
     let mut held: u64 = 0;
     for output in outputs {
         held = held.saturating_add(output.shared.counts(rt).held);
@@ -339,10 +340,10 @@ impl Drain {
 
     /// The part of the reader in front, at a moment (milliseconds): it hears who asks the relay
     /// to stop; and where somebody did, it goes on with that.
-    pub fn tend<R: Wait + Clock, W: Observer>(
+    pub fn tend<J: Run, R: Wait + Clock, W: Observer>(
         &mut self,
         rt: &R,
-        reader: &mut Reader<'_, R>,
+        reader: &mut Reader<'_, J, R>,
         observer: &mut W,
         now: u64,
     ) {
@@ -371,10 +372,10 @@ impl Drain {
     }
 
     /// The relay is asked to stop by a moment (milliseconds).
-    fn ask<R: Wait + Clock, W: Observer>(
+    fn ask<J: Run, R: Wait + Clock, W: Observer>(
         &mut self,
         rt: &R,
-        reader: &Reader<'_, R>,
+        reader: &Reader<'_, J, R>,
         observer: &mut W,
         deadline: u64,
     ) {

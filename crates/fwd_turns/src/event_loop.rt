@@ -11,6 +11,7 @@ use crate::lost_servers::{LostServers, fact_of};
 use crate::places::{PlaceRule, free_place, part, tell_closed};
 use crate::visiting::{After, after_visit, note, serve_monitor, tell_end, write_at};
 use fwd_environment::WorkerEvent;
+use fwd_history::Run;
 use fwd_links::{Mailbox, Notices, RunClock, SharedFlags};
 use fwd_listeners::tokens::{CONTROL, MONITORS, SOURCES, WAKER};
 use fwd_listeners::{Control, ControlAnswer};
@@ -48,10 +49,10 @@ const LOOKS: u32 = 24;
 
 /// Where requests go, and what else the loop looks at while it reads.
 #[derive(Drop)]
-pub(crate) struct ReadContext<'d, 'a> {
+pub(crate) struct ReadContext<'d, 'a, J: Run> {
     /// What pages are made of.
-    pub parts: PageParts<'d>,
-    pub router: &'d mut Router<'a>,
+    pub parts: PageParts<'d, J>,
+    pub router: &'d mut Router<'a, J>,
     pub mailbox: &'d Mailbox,
     /// Pages are made by a thread of their own.
     pub are_pages_ordered: bool,
@@ -177,10 +178,10 @@ impl EventLoop {
 
     /// Takes the connections that wait at the listeners, if it has them, at a moment
     /// (milliseconds), and hands the sources to readers.
-    pub(crate) fn accept<R: Wait, W: Observer>(
+    pub(crate) fn accept<J: Run, R: Wait, W: Observer>(
         &mut self,
         rt: &R,
-        router: &mut Router<'_>,
+        router: &mut Router<'_, J>,
         inboxes: &ReaderInboxes,
         observer: &mut W,
         now: u64,
@@ -208,10 +209,10 @@ impl EventLoop {
 
     /// The same for a relay that was asked to stop: it takes all that wait, closes the listener of
     /// sources once none does, and says whether it is closed.
-    pub(crate) fn accept_last<R: Wait, W: Observer>(
+    pub(crate) fn accept_last<J: Run, R: Wait, W: Observer>(
         &mut self,
         rt: &R,
-        router: &mut Router<'_>,
+        router: &mut Router<'_, J>,
         inboxes: &ReaderInboxes,
         observer: &mut W,
         now: u64,
@@ -289,10 +290,10 @@ impl EventLoop {
     }
 
     /// Hands in all tickets, and writes what that has sources told, at a moment (milliseconds).
-    pub(crate) fn finish<R: Wait, W: Observer>(
+    pub(crate) fn finish<J: Run, R: Wait, W: Observer>(
         &mut self,
         rt: &R,
-        router: &mut Router<'_>,
+        router: &mut Router<'_, J>,
         observer: &mut W,
         now: u64,
     ) {
@@ -312,10 +313,10 @@ impl EventLoop {
 
     /// Closes the connections that had their time at a moment (milliseconds), and have not shown
     /// what they are.
-    pub(crate) fn close_late<R: Wait, W: Observer>(
+    pub(crate) fn close_late<J: Run, R: Wait, W: Observer>(
         &mut self,
         rt: &R,
-        router: &mut Router<'_>,
+        router: &mut Router<'_, J>,
         observer: &mut W,
         now: u64,
     ) {
@@ -331,10 +332,10 @@ impl EventLoop {
 
     /// Closes the source that gives its place to a new one at a moment (milliseconds), if one does;
     /// sources that wait take more than their share, or not.
-    pub(crate) fn give_place<R: Wait, W: Observer>(
+    pub(crate) fn give_place<J: Run, R: Wait, W: Observer>(
         &mut self,
         rt: &R,
-        router: &mut Router<'_>,
+        router: &mut Router<'_, J>,
         observer: &mut W,
         is_crowded: bool,
         now: u64,
@@ -349,10 +350,10 @@ impl EventLoop {
 
     /// Waits from a moment on (milliseconds) until something is ready or told, and notes what is
     /// ready.
-    pub(crate) fn wait(
+    pub(crate) fn wait<J: Run>(
         &mut self,
         mailbox: &Mailbox,
-        router: &Router<'_>,
+        router: &Router<'_, J>,
         now: u64,
     ) -> Result<(), StartFault> {
         let connections = &self.connections;
@@ -422,10 +423,10 @@ impl EventLoop {
     }
 
     /// Writes what waits to be sent to each connection that is told, at a moment (milliseconds).
-    pub(crate) fn write_all<R: Wait, W: Observer>(
+    pub(crate) fn write_all<J: Run, R: Wait, W: Observer>(
         &mut self,
         rt: &R,
-        router: &mut Router<'_>,
+        router: &mut Router<'_, J>,
         observer: &mut W,
         now: u64,
     ) {
@@ -437,10 +438,10 @@ impl EventLoop {
     /// Writes what waits to be sent to the next connection that is told. A source of which requests
     /// wait is kept, as behind a visit that reads.
     #[tactic(auto, using(crate::proofs::Keeping::keeps, crate::proofs::Keeping::all_stand))]
-    fn write_next<R: Wait, W: Observer>(
+    fn write_next<J: Run, R: Wait, W: Observer>(
         &mut self,
         rt: &R,
-        router: &mut Router<'_>,
+        router: &mut Router<'_, J>,
         observer: &mut W,
         now: u64,
     )
@@ -455,10 +456,10 @@ impl EventLoop {
     }
 
     /// What becomes of a connection behind a visit is noted, at a moment (milliseconds).
-    fn follow<R: Wait>(
+    fn follow<J: Run, R: Wait>(
         &mut self,
         rt: &R,
-        router: &mut Router<'_>,
+        router: &mut Router<'_, J>,
         key: usize,
         after: After,
         now: u64,
@@ -481,10 +482,10 @@ impl EventLoop {
     /// Reads each connection that is ready, once, and has what it asks for admitted: for some
     /// milliseconds, or until workers tell something, and those that are left in a later turn. As
     /// long as memory is refused no source is read, which is told when that begins.
-    pub(crate) fn read_all<R: Wait + Clock, W: Observer>(
+    pub(crate) fn read_all<J: Run, R: Wait + Clock, W: Observer>(
         &mut self,
         rt: &R,
-        context: &mut ReadContext<'_, '_>,
+        context: &mut ReadContext<'_, '_, J>,
         observer: &mut W,
         clock: &mut RunClock<'_, R>,
     ) {
@@ -501,10 +502,10 @@ impl EventLoop {
     }
 
     /// Reads the next connection that is ready.
-    fn read_next<R: Wait, W: Observer>(
+    fn read_next<J: Run, R: Wait, W: Observer>(
         &mut self,
         rt: &R,
-        context: &mut ReadContext<'_, '_>,
+        context: &mut ReadContext<'_, '_, J>,
         observer: &mut W,
     ) {
         let Some(Ready { key, to_end }) = self.connections.next_ready() else {
@@ -542,9 +543,9 @@ impl EventLoop {
 }
 
 /// An observer is told what workers told.
-pub(crate) fn tell_all<W: Observer>(
+pub(crate) fn tell_all<J: Run, W: Observer>(
     notices: &Notices,
-    outputs: &[Output],
+    outputs: &[Output<J>],
     lost_servers: &mut LostServers,
     observer: &mut W,
 ) {

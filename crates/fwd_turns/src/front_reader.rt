@@ -6,6 +6,7 @@ use crate::draining::Drain;
 use crate::event_loop::tell_all;
 use crate::lost_servers::LostServers;
 use crate::reader::Reader;
+use fwd_history::Run;
 use fwd_links::{Mailbox, Notices};
 use fwd_monitors::{JournalEvent, MemoryFor, Observer, PageQueue, StartFault};
 use fwd_reader::{Output, PageParts};
@@ -35,15 +36,15 @@ impl<'a> Drop for FrontReader<'a> {
 }
 
 /// Makes the pages that monitors wait for, beside the relay's turns, in a thread of its own.
-#[derive(Clone, Copy)]
-pub struct PageMaker<'a> {
+#[derive_where(Clone, Copy)]
+pub struct PageMaker<'a, J: Run> {
     alloc: Global,
-    parts: PageParts<'a>,
+    parts: PageParts<'a, J>,
     mailbox: &'a Mailbox,
     pages: &'a PageQueue,
 }
 
-impl<'a> PageMaker<'a> {
+impl<'a, J: Run> PageMaker<'a, J> {
     /// Makes each page that is ordered, until no more are made.
     pub fn work<R: Wait>(self, rt: &R) {
         for _ in rt.forever() {
@@ -62,9 +63,9 @@ impl<'a> PageMaker<'a> {
 
 impl<'a> FrontReader<'a> {
     /// No server is lost, and nobody asked the relay to stop. The only error is out of memory.
-    pub fn new(
+    pub fn new<J: Run>(
         alloc: Global,
-        outputs: &[Output],
+        outputs: &[Output<J>],
         pages: &'a PageQueue,
     ) -> Result<FrontReader<'a>, StartFault> {
         Ok(FrontReader {
@@ -76,10 +77,10 @@ impl<'a> FrontReader<'a> {
     }
 
     /// Workers told this: it is counted, and an observer is told what becomes of servers.
-    pub(crate) fn hear<R: Wait + Clock, W: Observer>(
+    pub(crate) fn hear<J: Run, R: Wait + Clock, W: Observer>(
         &mut self,
         rt: &R,
-        reader: &Reader<'_, R>,
+        reader: &Reader<'_, J, R>,
         notices: &Notices,
         observer: &mut W,
     ) {
@@ -89,10 +90,10 @@ impl<'a> FrontReader<'a> {
 
     /// Monitors that took nothing for long are closed, at a moment (milliseconds); those that wait
     /// for a page that was made are sent it, and a further one is ordered for those that want it.
-    pub(crate) fn tend_monitors<R: Wait + Clock, W: Observer>(
+    pub(crate) fn tend_monitors<J: Run, R: Wait + Clock, W: Observer>(
         &mut self,
         rt: &R,
-        reader: &mut Reader<'_, R>,
+        reader: &mut Reader<'_, J, R>,
         observer: &mut W,
         now: u64,
     ) {
@@ -116,10 +117,10 @@ impl<'a> FrontReader<'a> {
     }
 
     /// Monitors that wait for a page that was made are sent it, at a moment (milliseconds).
-    fn hand_page<R: Wait + Clock, W: Observer>(
+    fn hand_page<J: Run, R: Wait + Clock, W: Observer>(
         &mut self,
         rt: &R,
-        reader: &mut Reader<'_, R>,
+        reader: &mut Reader<'_, J, R>,
         observer: &mut W,
         now: u64,
     ) {
@@ -133,10 +134,10 @@ impl<'a> FrontReader<'a> {
     }
 
     /// What makes pages in a thread of its own, where the reader listens for monitors.
-    pub(crate) fn page_maker<R: Wait + Clock>(
+    pub(crate) fn page_maker<J: Run, R: Wait + Clock>(
         &self,
-        reader: &Reader<'a, R>,
-    ) -> Option<PageMaker<'a>> {
+        reader: &Reader<'a, J, R>,
+    ) -> Option<PageMaker<'a, J>> {
         let acceptor = reader.event_loop.acceptor.as_ref()?;
         acceptor.monitors.as_ref()?;
         Some(PageMaker {

@@ -1,6 +1,7 @@
 //! Which servers are lost.
 
 use fwd_environment::{LossReason, Refused, TextFront, WorkerEvent};
+use fwd_history::Run;
 use fwd_links::{DeniedLogin, RefusedChunk, WorkerNotice};
 use fwd_monitors::JournalEvent;
 use fwd_reader::Output;
@@ -16,7 +17,7 @@ struct ServerId {
 
 impl ServerId {
     /// Where it is reached, if there is such a server.
-    fn address(self, outputs: &[Output]) -> Option<SocketAddr> {
+    fn address<J: Run>(self, outputs: &[Output<J>]) -> Option<SocketAddr> {
         let own = outputs.get(self.output as usize)?;
         let address = own.servers.get(self.server as usize)?;
         Some(*address)
@@ -24,7 +25,10 @@ impl ServerId {
 }
 
 /// What there is to tell of a chunk that a server seems to refuse.
-pub(crate) fn fact_of(outputs: &[Output], refusal: &RefusedChunk) -> Option<JournalEvent> {
+pub(crate) fn fact_of<J: Run>(
+    outputs: &[Output<J>],
+    refusal: &RefusedChunk,
+) -> Option<JournalEvent> {
     let output = refusal.output;
     let Refused {
         server,
@@ -62,7 +66,7 @@ pub(crate) struct LostServers {
 
 impl LostServers {
     /// No server of these outputs is lost. The only error is out of memory.
-    pub fn new(alloc: Global, outputs: &[Output]) -> Result<LostServers, AllocError> {
+    pub fn new<J: Run>(alloc: Global, outputs: &[Output<J>]) -> Result<LostServers, AllocError> {
         let mut lost = Vec::new(alloc);
         for output in outputs {
             lost.reserve(output.servers.len())?;
@@ -71,9 +75,9 @@ impl LostServers {
     }
 
     /// What there is to tell of a worker's notice, if anything, where servers denied logins so.
-    pub fn hear(
+    pub fn hear<J: Run>(
         &mut self,
-        outputs: &[Output],
+        outputs: &[Output<J>],
         notice: &WorkerNotice,
         denied: &[DeniedLogin],
     ) -> Option<JournalEvent> {

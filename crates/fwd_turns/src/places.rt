@@ -28,6 +28,7 @@ ghost use Rattle.fwd_reader.specs.OpenConnections.{connection_at, without};
 
 use crate::visiting::tell_end;
 use fwd_book::AdmitRefusal;
+use fwd_history::Run;
 use fwd_monitors::Observer;
 use fwd_peers::CloseReason;
 use fwd_reader::{Connections, Peer, Router};
@@ -77,10 +78,10 @@ impl PlaceRule {
 }
 
 /// Closes the source that gives its place, and says whether one does.
-pub(crate) fn free_place<R: Wait, W: Observer>(
+pub(crate) fn free_place<J: Run, R: Wait, W: Observer>(
     rt: &R,
     connections: &mut Connections,
-    router: &mut Router<'_>,
+    router: &mut Router<'_, J>,
     observer: &mut W,
     rule: PlaceRule,
 ) -> bool {
@@ -118,7 +119,12 @@ pub(crate) fn tell_closed<W: Observer>(
 }
 
 /// The connection of a key waits at no output any more.
-fn leave<R: Wait>(rt: &R, connections: &mut Connections, router: &mut Router<'_>, key: usize)
+fn leave<J: Run, R: Wait>(
+    rt: &R,
+    connections: &mut Connections,
+    router: &mut Router<'_, J>,
+    key: usize,
+)
     ensures { (other : ℕ) → other ≢ key
         → connection_at connections.new other ≡ connection_at connections.old other }
 {
@@ -129,10 +135,10 @@ fn leave<R: Wait>(rt: &R, connections: &mut Connections, router: &mut Router<'_>
 
 /// The connection of a key goes, and waits at no output any more.
 #[tactic(auto, using(crate::proofs::Keeping::gone_then))]
-pub(crate) fn part<R: Wait>(
+pub(crate) fn part<J: Run, R: Wait>(
     rt: &R,
     connections: &mut Connections,
-    router: &mut Router<'_>,
+    router: &mut Router<'_, J>,
     key: usize,
 )
     ensures { connection_at connections.new ≡ without key (connection_at connections.old) }

@@ -4,9 +4,11 @@
 
 use crate::draining;
 use crate::event_loop::{EventLoop, ReadContext};
+use fwd_history::Run;
 use fwd_links::{Mailbox, Notices, RunClock, unix_seconds};
 use fwd_match::Routes;
 use fwd_monitors::{Figures, Observer, ProcessFigures, SharedTally, StartFault};
+use fwd_output::ReachedHistory;
 use fwd_reader::{FlushTimer, Output, PageParts, ReaderInbox, ReaderInboxes, Router, RouterParts};
 use std::alloc::{AllocError, Global};
 use std::rt::Clock;
@@ -47,11 +49,11 @@ pub(crate) struct Pages {
 }
 
 /// The outputs, which all readers share, and where a reader stands among these.
-#[derive(Clone, Copy)]
-pub struct Surroundings<'a> {
+#[derive_where(Clone, Copy)]
+pub struct Surroundings<'a, J: Run> {
     pub alloc: Global,
     pub routes: &'a Routes,
-    pub outputs: &'a [Output],
+    pub outputs: &'a [Output<J>],
     /// What all readers count.
     pub tally: &'a SharedTally,
     pub inboxes: &'a ReaderInboxes,
@@ -60,13 +62,15 @@ pub struct Surroundings<'a> {
     /// The reader's number, from 0.
     pub number: usize,
     pub start: Option<Instant>,
+    /// The history of the run as far as it is known, for the proof.
+    pub reached: &'a ReachedHistory<J>,
 }
 
 /// A reader: its own connections, and the tickets of their requests, over outputs that all readers
 /// share. It must be spent: by `close`.
-pub(crate) struct Reader<'a, R: Clock> {
+pub(crate) struct Reader<'a, J: Run, R: Clock> {
     pub alloc: Global,
-    pub outputs: &'a [Output],
+    pub outputs: &'a [Output<J>],
     pub tally: &'a SharedTally,
     pub inboxes: &'a ReaderInboxes,
     /// This reader's.
@@ -74,19 +78,19 @@ pub(crate) struct Reader<'a, R: Clock> {
     /// Where workers tell this reader what they did.
     pub mailbox: &'a Mailbox,
     pub event_loop: &'a mut EventLoop,
-    router: Router<'a>,
+    router: Router<'a, J>,
     clock: RunClock<'a, R>,
     /// When it was made, in whole seconds since 1970, if the system's clock could be read.
     started: Option<u64>,
 }
 
-impl<'a, R: Wait + Clock> Reader<'a, R> {
+impl<'a, J: Run, R: Wait + Clock> Reader<'a, J, R> {
     /// A reader of these parts. The only error is out of memory.
     pub fn new(
         rt: &'a R,
-        around: Surroundings<'a>,
+        around: Surroundings<'a, J>,
         parts: &'a mut ReaderParts,
-    ) -> Result<Reader<'a, R>, AllocError> {
+    ) -> Result<Reader<'a, J, R>, AllocError> {
         let Surroundings {
             alloc,
             routes,
@@ -96,6 +100,7 @@ impl<'a, R: Wait + Clock> Reader<'a, R> {
             inbox,
             number,
             start,
+            reached,
         } = around;
         let ReaderParts { event_loop, timers } = parts;
         let parts = RouterParts {
@@ -103,6 +108,7 @@ impl<'a, R: Wait + Clock> Reader<'a, R> {
             routes,
             outputs,
             timers,
+            reached: reached.with(reached),
         };
         let router = Router::new(rt, alloc, parts)?;
         Ok(Reader {
@@ -208,7 +214,7 @@ impl<'a, R: Wait + Clock> Reader<'a, R> {
     }
 
     /// What pages are made of.
-    pub fn parts(&self) -> PageParts<'a> {
+    pub fn parts(&self) -> PageParts<'a, J> {
         PageParts {
             outputs: self.outputs,
             tally: self.tally,

@@ -9,13 +9,14 @@ use crate::event_queue::{EventQueue, QueueObserver};
 use crate::front_reader::{FrontReader, PageMaker};
 use crate::reader::{Pages, Reader, ReaderParts, Surroundings};
 use fwd_chunks::Report;
+use fwd_history::Run;
 use fwd_monitors::{Observer, StartFault, TallyObserver};
 use fwd_reader::reports_of;
 use std::rt::Clock;
 use std::sync::Wait;
 
 /// The tickets of readers are handed in.
-pub fn close_all<R: Wait + Clock>(rt: &R, readers: Vec<Turns<'_, R>>) {
+pub fn close_all<J: Run, R: Wait + Clock>(rt: &R, readers: Vec<Turns<'_, J, R>>) {
     let mut rest = readers.into_iter();
     while let Some(reader) = rest.next() {
         reader.close(rt);
@@ -24,23 +25,23 @@ pub fn close_all<R: Wait + Clock>(rt: &R, readers: Vec<Turns<'_, R>>) {
 }
 
 /// The turns of a reader of a relay. They must be spent: by `close`.
-pub struct Turns<'a, R: Clock> {
-    reader: Reader<'a, R>,
+pub struct Turns<'a, J: Run, R: Clock> {
+    reader: Reader<'a, J, R>,
     journal_events: &'a EventQueue,
     /// What it does beside, where it is in front.
     front: Option<FrontReader<'a>>,
 }
 
-impl<'a, R: Wait + Clock> Turns<'a, R> {
+impl<'a, J: Run, R: Wait + Clock> Turns<'a, J, R> {
     /// The turns of the reader that has these parts, and of what it does beside if it is in front.
     /// The only error is out of memory.
     pub fn new(
         rt: &'a R,
-        around: Surroundings<'a>,
+        around: Surroundings<'a, J>,
         parts: &'a mut ReaderParts,
         journal_events: &'a EventQueue,
         front: Option<FrontReader<'a>>,
-    ) -> Result<Turns<'a, R>, StartFault> {
+    ) -> Result<Turns<'a, J, R>, StartFault> {
         Ok(Turns {
             reader: Reader::new(rt, around, parts)?,
             journal_events,
@@ -181,7 +182,7 @@ impl<'a, R: Wait + Clock> Turns<'a, R> {
     }
 
     /// What makes pages in a thread of its own, where monitors are listened for.
-    pub fn page_maker(&self) -> Option<PageMaker<'a>> {
+    pub fn page_maker(&self) -> Option<PageMaker<'a, J>> {
         let front = self.front.as_ref()?;
         front.page_maker(&self.reader)
     }

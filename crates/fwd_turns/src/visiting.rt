@@ -18,6 +18,7 @@ ghost use Rattle.fwd_turns.specs.Visits.{
 };
 
 use crate::event_loop::ReadContext;
+use fwd_history::Run;
 use fwd_monitors::{JournalEvent, MonitorPeer, MonitorVisit, Observer};
 use fwd_peers::{CloseReason, PeerEnd, SourcePeer};
 use fwd_reader::{Connections, Peer, Ready};
@@ -207,10 +208,10 @@ fn judge(source: &mut SourcePeer)
 
 /// Serves a monitor. Where no thread makes pages, one is made at once. The only error is out of
 /// memory.
-pub(crate) fn serve_monitor<R: Wait>(
+pub(crate) fn serve_monitor<J: Run, R: Wait>(
     rt: &R,
     alloc: Global,
-    context: &ReadContext<'_, '_>,
+    context: &ReadContext<'_, '_, J>,
     monitor: &mut MonitorPeer,
     room: &mut [u8],
 ) -> Result<After, AllocError> {

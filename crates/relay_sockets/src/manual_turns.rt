@@ -1,14 +1,20 @@
 //! Turns of a relay that are made by hand: first without its workers, and then beside them.
 
+ghost use Rattle.std.specs.Prelude.{◌≡◌, ◌<◌, true};
+ghost use Rattle.fwd_settings.specs.Ranges.{in_range};
+
 use crate::frame::MESSAGE;
 use crate::running::{Turner, run};
 use crate::scene_run::SceneRun;
-use crate::sealed::Sealed;
 use crate::step::Step;
-use crate::test_relay::{PLAIN, SEED};
+use crate::test_relay::{PLAIN, SEED, started};
 use anyhow::{Result, anyhow};
+use fwd_history::Run;
 use fwd_loop::{Platform, Turns};
 use fwd_monitor::page;
+use fwd_output::OpenedOutputs;
+use fwd_settings::Settings;
+use std::marker::Brand;
 use std::net::{Net, TcpListener, TcpStream};
 use std::rt::Clock;
 use std::sync::Wait;
@@ -67,7 +73,7 @@ const CLOSED: &[Step] = &[Step::Told("told_at_the_close", 0), Step::Rest("rest",
 const SOON: u64 = 20_000;
 
 /// Makes so many turns.
-fn turn<R: Wait + Clock>(rt: &R, turns: &mut Turns<'_, R>, count: u32) -> Result<()> {
+fn turn<J: Run, R: Wait + Clock>(rt: &R, turns: &mut Turns<'_, J, R>, count: u32) -> Result<()> {
     for _ in 0..count {
         if let Err(fault) = turns.turn(rt) {
             return Err(anyhow!("{fault}"));
@@ -77,9 +83,9 @@ fn turn<R: Wait + Clock>(rt: &R, turns: &mut Turns<'_, R>, count: u32) -> Result
 }
 
 /// Appends the monitor's page of what the outputs have to do with.
-fn put_page<R: Wait + Clock>(
+fn put_page<J: Run, R: Wait + Clock>(
     rt: &R,
-    turns: &Turns<'_, R>,
+    turns: &Turns<'_, J, R>,
     field: &str,
     stage: &mut SceneRun,
 ) -> Result<()> {
@@ -90,9 +96,9 @@ fn put_page<R: Wait + Clock>(
 }
 
 /// Plays these steps.
-fn play<R: Net<Listener = TcpListener, Stream = TcpStream> + Wait + Clock>(
+fn play<J: Run, R: Net<Listener = TcpListener, Stream = TcpStream> + Wait + Clock>(
     rt: &R,
-    turns: &mut Turns<'_, R>,
+    turns: &mut Turns<'_, J, R>,
     steps: &[ManualClock],
     stage: &mut SceneRun,
 ) -> Result<()> {
@@ -107,28 +113,37 @@ fn play<R: Net<Listener = TcpListener, Stream = TcpStream> + Wait + Clock>(
 }
 
 impl Turner for SceneRun {
-    fn turn_alone<R: Net<Listener = TcpListener, Stream = TcpStream> + Wait + Clock>(
+    fn turn_alone<J: Run, R: Net<Listener = TcpListener, Stream = TcpStream> + Wait + Clock>(
         &mut self,
         rt: &R,
-        turns: &mut Turns<'_, R>,
+        turns: &mut Turns<'_, J, R>,
     ) {
         let played = play(rt, turns, ALONE, self);
         self.told.note(played);
     }
 
-    fn turn_beside<R: Net<Listener = TcpListener, Stream = TcpStream> + Wait + Clock>(
+    fn turn_beside<J: Run, R: Net<Listener = TcpListener, Stream = TcpStream> + Wait + Clock>(
         &mut self,
         rt: &R,
-        turns: &mut Turns<'_, R>,
+        turns: &mut Turns<'_, J, R>,
     ) {
         let played = play(rt, turns, BESIDE, self);
         self.told.note(played);
     }
 }
 
-/// Makes the turns of such a relay.
-fn make_turns<R: Platform>(rt: &R, stage: &mut SceneRun) -> Result<()> {
-    let relay = stage.site.relay(&Sealed::new(rt), 8, SEED, &[PLAIN])?;
+/// Makes the turns of a relay of these settings, whose outputs' history it is given.
+fn make_turns<J: Run + Send + Sync, R: Platform>(
+    rt: &R,
+    opened: OpenedOutputs,
+    settings: Settings,
+    stage: &mut SceneRun,
+) -> Result<()>
+    requires range { in_range settings ≡ true }
+    requires book { opened.book ≡ J.book }
+    requires pages { 64 < opened.pages }
+{
+    let relay = started::<J, R>(rt, opened, settings)?;
     let ended = run(rt, relay, stage);
     stage.play(rt, Step::Within("soon", SOON))?;
     for step in CLOSED {
@@ -138,6 +153,12 @@ fn make_turns<R: Platform>(rt: &R, stage: &mut SceneRun) -> Result<()> {
         Ok(reports) => stage.told.put_counts(&reports),
         Err(fault) => Err(anyhow!("{fault}")),
     }
+}
+
+/// Makes the turns of such a relay.
+fn make_such_turns<R: Platform>(rt: &R, stage: &mut SceneRun) -> Result<()> {
+    let settings = stage.site.settings(rt.alloc(), 8, SEED, &[PLAIN])?;
+    make_turns::<Brand, R>(rt, OpenedOutputs::new(usize::MAX), settings, stage)
 }
 
 /// What is printed of turns by hand.
@@ -151,7 +172,7 @@ pub fn text_of_turns<
 >(rt: &R, host: u8) -> Result<String> {
     let mut stage = SceneRun::new(rt, rt.alloc(), host)?;
     stage.told.begin("turns by hand");
-    let made = make_turns(rt, &mut stage);
+    let made = make_such_turns(rt, &mut stage);
     stage.told.note(made);
     Ok(stage.take_text())
 }

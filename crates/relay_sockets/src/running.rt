@@ -2,6 +2,7 @@
 
 use crate::run_events::RunEvents;
 use fwd_chunks::Report;
+use fwd_history::Run;
 use fwd_loop::{Beside, Loop, Opened, Platform, StartFault, Started, Turns, close_all};
 use std::net::{Net, TcpListener, TcpStream};
 use std::rt::Clock;
@@ -12,17 +13,17 @@ use std::thread;
 /// Who makes the turns of a relay.
 pub trait Turner {
     /// Makes turns before the workers work.
-    fn turn_alone<R: Net<Listener = TcpListener, Stream = TcpStream> + Wait + Clock>(
+    fn turn_alone<J: Run, R: Net<Listener = TcpListener, Stream = TcpStream> + Wait + Clock>(
         &mut self,
         rt: &R,
-        turns: &mut Turns<'_, R>,
+        turns: &mut Turns<'_, J, R>,
     );
 
     /// Makes turns while they work.
-    fn turn_beside<R: Net<Listener = TcpListener, Stream = TcpStream> + Wait + Clock>(
+    fn turn_beside<J: Run, R: Net<Listener = TcpListener, Stream = TcpStream> + Wait + Clock>(
         &mut self,
         rt: &R,
-        turns: &mut Turns<'_, R>,
+        turns: &mut Turns<'_, J, R>,
     );
 }
 
@@ -36,16 +37,16 @@ pub struct Until<'a> {
 }
 
 impl Turner for Until<'_> {
-    fn turn_alone<R: Net<Listener = TcpListener, Stream = TcpStream> + Wait + Clock>(
+    fn turn_alone<J: Run, R: Net<Listener = TcpListener, Stream = TcpStream> + Wait + Clock>(
         &mut self,
         _rt: &R,
-        _turns: &mut Turns<'_, R>,
+        _turns: &mut Turns<'_, J, R>,
     ) {}
 
-    fn turn_beside<R: Net<Listener = TcpListener, Stream = TcpStream> + Wait + Clock>(
+    fn turn_beside<J: Run, R: Net<Listener = TcpListener, Stream = TcpStream> + Wait + Clock>(
         &mut self,
         rt: &R,
-        turns: &mut Turns<'_, R>,
+        turns: &mut Turns<'_, J, R>,
     ) {
         for _ in 0..u64::MAX {
             if self.over.load(Ordering::SeqCst) || self.fault.is_some() {
@@ -57,10 +58,10 @@ impl Turner for Until<'_> {
 }
 
 /// Makes turns with the other readers and the workers at work meanwhile, which end then, too.
-fn serve<R: Platform, T: Turner>(
+fn serve<J: Run + Send + Sync, R: Platform, T: Turner>(
     rt: &R,
-    turns: &mut Turns<'_, R>,
-    beside: Beside<'_, '_, R>,
+    turns: &mut Turns<'_, J, R>,
+    beside: Beside<'_, '_, J, R>,
     turner: &mut T,
 ) -> Result<(), StartFault> {
     thread::scope(thread::scope_env(), rt, move |scope| {
@@ -75,9 +76,9 @@ fn serve<R: Platform, T: Turner>(
 
 /// Opens a relay, makes its turns, and answers what its outputs have to do with then. All its
 /// threads have ended by that.
-pub fn run<R: Platform, T: Turner>(
+pub fn run<J: Run + Send + Sync, R: Platform, T: Turner>(
     rt: &R,
-    relay: Loop,
+    relay: Loop<J>,
     turner: &mut T,
 ) -> Result<Vec<Report>, StartFault> {
     let mut relay = relay;

@@ -1,16 +1,20 @@
 //! A scene: a relay, and what happens around it.
 
+ghost use Rattle.std.specs.Prelude.{◌≡◌, ◌<◌};
+
 use crate::polled_server::Mood;
 use crate::run_events::{RunEvents, Said};
 use crate::running::{Until, run};
 use crate::scene_run::SceneRun;
-use crate::sealed::Sealed;
 use crate::step::Step;
-use crate::test_relay::{Output, PLAIN, SEED};
+use crate::test_relay::{Output, PLAIN, SEED, started};
 use crate::traffic::{play_alone, play_deaths};
 use anyhow::{Result, anyhow, bail};
 use fwd_chunks::Report;
+use fwd_history::Run;
 use fwd_loop::{Loop, Platform, StartFault};
+use fwd_output::OpenedOutputs;
+use std::marker::Brand;
 use std::net::{Net, TcpListener, TcpStream};
 use std::rt::Clock;
 use std::sync::Wait;
@@ -102,10 +106,10 @@ impl Scene {
     }
 
     /// Runs its relay: what its outputs have to do with then.
-    fn turn<R: Platform>(
+    fn turn<J: Run + Send + Sync, R: Platform>(
         self,
         rt: &R,
-        relay: Loop,
+        relay: Loop<J>,
         until: &mut Until<'_>,
     ) -> Result<Vec<Report>, StartFault> {
         match self.turns {
@@ -126,17 +130,22 @@ impl Scene {
         heard.put_closings(&mut stage.told)
     }
 
-    /// Runs its relay, and plays what happens around it meanwhile. The relay ends with the play,
-    /// whatever that came to.
-    fn run<R: Platform>(
+    /// Runs its relay, whose outputs' history it is given, and plays what happens around it
+    /// meanwhile. The relay ends with the play, whatever that came to.
+    fn run<J: Run + Send + Sync, R: Platform>(
         self,
         rt: &R,
+        opened: OpenedOutputs,
         stage: &mut SceneRun,
         until: &mut Until<'_>,
-    ) -> Result<Vec<Report>> {
-        let relay = stage
+    ) -> Result<Vec<Report>>
+        requires book { opened.book ≡ J.book }
+        requires pages { 64 < opened.pages }
+    {
+        let settings = stage
             .site
-            .relay(&Sealed::new(rt), self.sources, self.keys, self.outputs)?;
+            .settings(rt.alloc(), self.sources, self.keys, self.outputs)?;
+        let relay = started::<J, R>(rt, opened, settings)?;
         let over = until.over;
         let (ended, played) = thread::join(
             rt,
@@ -162,7 +171,8 @@ impl Scene {
             over: &is_over,
             fault: None,
         };
-        let reports = self.run(rt, stage, &mut until)?;
+        let opened = OpenedOutputs::new(usize::MAX);
+        let reports = self.run::<Brand, R>(rt, opened, stage, &mut until)?;
         let Until {
             heard,
             over: _,

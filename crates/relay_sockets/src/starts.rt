@@ -1,11 +1,17 @@
 //! Why a relay does not start, and what is said of it.
 
+ghost use Rattle.std.specs.Prelude.{◌≡◌, ◌<◌, true};
+ghost use Rattle.fwd_settings.specs.Ranges.{in_range};
+
 use crate::scene_run::SceneRun;
-use crate::sealed::Sealed;
-use crate::test_relay::{PLAIN, SEED, TestRelay};
+use crate::test_relay::{PLAIN, SEED, TestRelay, started};
 use crate::transcript::Transcript;
 use anyhow::{Result, anyhow};
+use fwd_history::Run;
 use fwd_loop::StartFault;
+use fwd_output::OpenedOutputs;
+use fwd_settings::Settings;
+use std::marker::Brand;
 use std::net::{Net, SocketAddr, TcpListener, TcpStream};
 use std::rt::Clock;
 
@@ -15,7 +21,21 @@ fn start<R: Net<Listener = TcpListener, Stream = TcpStream> + AllocGlobal>(
     site: TestRelay,
     keys: &str,
 ) -> Result<String> {
-    match site.relay(&Sealed::new(rt), 8, keys, &[PLAIN]) {
+    let settings = site.settings(rt.alloc(), 8, keys, &[PLAIN])?;
+    refusal::<Brand, R>(rt, OpenedOutputs::new(usize::MAX), settings)
+}
+
+/// What a relay of these settings says that does not start.
+fn refusal<J: Run + Send + Sync, R: Net<Listener = TcpListener, Stream = TcpStream> + AllocGlobal>(
+    rt: &R,
+    opened: OpenedOutputs,
+    settings: Settings,
+) -> Result<String>
+    requires range { in_range settings ≡ true }
+    requires book { opened.book ≡ J.book }
+    requires pages { 64 < opened.pages }
+{
+    match started::<J, R>(rt, opened, settings) {
         Ok(_) => Err(anyhow!("it starts")),
         Err(fault) => Ok(format!(in rt.alloc(); "{fault}")?),
     }

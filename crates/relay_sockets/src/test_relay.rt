@@ -1,12 +1,17 @@
 //! A relay on this machine: its ports and its settings.
 
+ghost use Rattle.std.specs.Prelude.{◌≡◌, ◌<◌, true, IfOk};
+ghost use Rattle.fwd_settings.specs.Ranges.{in_range};
+
+use crate::sealed::Sealed;
 use crate::server::Server;
 use anyhow::{Result, anyhow};
+use fwd_history::Run;
 use fwd_loop::Loop;
-use fwd_settings::{accepted_is_in_range, read_settings};
+use fwd_output::OpenedOutputs;
+use fwd_settings::{Settings, accepted_is_in_range, read_settings};
 use std::alloc::{AllocError, Global};
 use std::net::{Net, SocketAddr, TcpListener, TcpStream};
-use std::rt::Files;
 
 /// What most relays are set to: a seed of zeros, of which their random numbers come.
 pub const SEED: &str =
@@ -134,22 +139,37 @@ impl TestRelay {
         Ok(text)
     }
 
-    /// A relay by such settings. Where it does not start, the error is what is said of that.
-    pub fn relay<R: Net + Files + AllocGlobal>(
+    /// Such settings, as they are read.
+    pub fn settings(
         self,
-        rt: &R,
+        alloc: Global,
         connections: u16,
         keys: &str,
         outputs: &[Output],
-    ) -> Result<Loop> {
-        let text = self.settings_text(rt.alloc(), connections, keys, outputs)?;
+    ) -> Result<Settings>
+        ensures { IfOk result (λ settings. in_range settings ≡ true) }
+    {
+        let text = self.settings_text(alloc, connections, keys, outputs)?;
         accepted_is_in_range();
-        let Ok(settings) = read_settings(rt.alloc(), text.as_bytes()) else {
-            return Err(anyhow!("the settings are not taken"));
-        };
-        match Loop::new(rt, settings) {
-            Ok(relay) => Ok(relay),
-            Err(fault) => Err(anyhow!("{fault}")),
+        match read_settings(alloc, text.as_bytes()) {
+            Ok(settings) => Ok(settings),
+            Err(_) => Err(anyhow!("the settings are not taken")),
         }
+    }
+}
+
+/// A relay of these settings, whose outputs' history it is given. Where it does not start, the
+/// error is what is said of that.
+pub fn started<
+    J: Run + Send + Sync,
+    R: Net<Listener = TcpListener, Stream = TcpStream> + AllocGlobal,
+>(rt: &R, opened: OpenedOutputs, settings: Settings) -> Result<Loop<J>>
+    requires range { in_range settings ≡ true }
+    requires book { opened.book ≡ J.book }
+    requires pages { 64 < opened.pages }
+{
+    match Loop::new(&Sealed::new(rt), opened, settings) {
+        Ok(relay) => Ok(relay),
+        Err(fault) => Err(anyhow!("{fault}")),
     }
 }

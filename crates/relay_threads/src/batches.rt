@@ -1,6 +1,6 @@
 //! The requests that are admitted, and the outputs that they are admitted to.
 
-ghost use Rattle.std.specs.Prelude.{◌≡◌, IfOk};
+ghost use Rattle.std.specs.Prelude.{◌≡◌, ◌≤◌, false, length, Contains, IfOk};
 
 use anyhow::{Result, bail};
 use fwd_base::Bytes;
@@ -9,7 +9,7 @@ use fwd_handshake::Login;
 use fwd_model::BufferLimits;
 use fwd_modes::{Batch, Reading, read_request};
 use fwd_msgpack::{Cut, Limits, cut};
-use fwd_output::OutputState;
+use fwd_output::OutputSetup;
 use fwd_session::{AckTerms, Session};
 use std::alloc::Global;
 use std::sync::Arc;
@@ -71,42 +71,49 @@ pub fn batch(alloc: Global, bytes: &[u8]) -> Result<Batch> {
     }
 }
 
-/// The first output, with two servers, the second of them a standby.
-pub fn output(alloc: Global, chunk: u32, total: u64) -> Result<OutputState>
-    ensures { IfOk result (λ o. (o.buffer.accepted ≡ 0) × (o.buffer.settled ≡ 0)) }
+/// What an output of these servers begins with: for each it says whether it is a standby.
+fn setup(number: u16, chunk: u32, total: u64, standby: &'static [bool]) -> OutputSetup<'static>
+    ensures number { result.output ≡ number }
+    ensures servers { result.standby.now ≡ standby.now }
 {
-    output_at(alloc, 0, chunk, total)
+    OutputSetup {
+        limits: limits(chunk, total),
+        run: [0; 6],
+        output: number,
+        standby,
+    }
+}
+
+/// The first output, with two servers, the second of them a standby.
+pub fn output(chunk: u32, total: u64) -> OutputSetup<'static>
+    ensures number { result.output ≡ 0 }
+    ensures servers { (length result.standby.now ≤ 16) × Contains result.standby.now false }
+{
+    output_at(0, chunk, total)
 }
 
 /// The same output at the place of this number.
-pub fn output_at(alloc: Global, number: u16, chunk: u32, total: u64) -> Result<OutputState>
-    ensures { IfOk result (λ o. (o.buffer.accepted ≡ 0) × (o.buffer.settled ≡ 0)) }
+pub fn output_at(number: u16, chunk: u32, total: u64) -> OutputSetup<'static>
+    ensures number { result.output ≡ number }
+    ensures servers { (length result.standby.now ≤ 16) × Contains result.standby.now false }
 {
-    let limits = limits(chunk, total);
-    let state = OutputState::new(alloc, limits, [0; 6], number, &[false, true])?;
-    Ok(state)
+    setup(number, chunk, total, &[false, true])
 }
 
 /// The first output, with one server.
-pub fn output_of_one(alloc: Global, chunk: u32, total: u64) -> Result<OutputState>
-    ensures { IfOk result (λ o. (o.buffer.accepted ≡ 0) × (o.buffer.settled ≡ 0)) }
+pub fn output_of_one(chunk: u32, total: u64) -> OutputSetup<'static>
+    ensures number { result.output ≡ 0 }
+    ensures servers { (length result.standby.now ≤ 16) × Contains result.standby.now false }
 {
-    let state = OutputState::new(alloc, limits(chunk, total), [0; 6], 0, &[false])?;
-    Ok(state)
+    setup(0, chunk, total, &[false])
 }
 
 /// An output with three servers, the last of them a standby.
-pub fn output_of_three(alloc: Global, chunk: u32, total: u64) -> Result<OutputState>
-    ensures { IfOk result (λ o. (o.buffer.accepted ≡ 0) × (o.buffer.settled ≡ 0)) }
+pub fn output_of_three(chunk: u32, total: u64) -> OutputSetup<'static>
+    ensures number { result.output ≡ 0 }
+    ensures servers { (length result.standby.now ≤ 16) × Contains result.standby.now false }
 {
-    let state = OutputState::new(
-        alloc,
-        limits(chunk, total),
-        [0; 6],
-        0,
-        &[false, false, true],
-    )?;
-    Ok(state)
+    setup(0, chunk, total, &[false, false, true])
 }
 
 /// The chunk is no more: a buffer that did not give it only spends it.

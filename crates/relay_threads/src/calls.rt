@@ -5,6 +5,7 @@ ghost use Rattle.fwd_session.specs.ServerAcks.{IsServerAck};
 
 use fwd_book::Receipt;
 use fwd_chunks::Carried;
+use fwd_history::Run;
 use fwd_model::{Counts, FlushKind, Origin};
 use fwd_modes::Batch;
 use fwd_output::{AdmitRefusal, Locked, Plain, SharedOutput, Ticket};
@@ -44,7 +45,7 @@ pub trait Output {
     fn end(&mut self, taken: Option<Carried>, loaded: Vec<Carried>, server: Option<u16>, now: u64);
 }
 
-impl Output for Locked<Plain, Plain> {
+impl<J: Run> Output for Locked<Plain<J>, Plain<J>> {
     fn counts(&mut self) -> Counts {
         Locked::counts(self)
     }
@@ -64,7 +65,10 @@ impl Output for Locked<Plain, Plain> {
         alloc: Global,
         tickets: Vec<Ticket>,
     ) -> Result<(Vec<Receipt>, Vec<Ticket>), (AllocError, Vec<Ticket>)> {
-        Locked::collect(self, alloc, tickets)
+        match Locked::collect(self, alloc, tickets) {
+            Ok((receipts, back, _)) => Ok((receipts, back)),
+            Err(failed) => Err(failed),
+        }
     }
 
     fn abandon(&mut self, ticket: Ticket) {
@@ -97,12 +101,12 @@ impl Output for Locked<Plain, Plain> {
 
 /// An output behind its lock.
 #[derive(Drop)]
-pub struct Behind<'a, R: Wait> {
+pub struct Behind<'a, R: Wait, J: Run> {
     pub rt: &'a R,
-    pub shared: SharedOutput<Plain, Plain>,
+    pub shared: SharedOutput<Plain<J>, Plain<J>>,
 }
 
-impl<'a, R: Wait> Output for Behind<'a, R> {
+impl<'a, R: Wait, J: Run> Output for Behind<'a, R, J> {
     fn counts(&mut self) -> Counts {
         self.shared.counts(self.rt)
     }
@@ -123,7 +127,10 @@ impl<'a, R: Wait> Output for Behind<'a, R> {
         alloc: Global,
         tickets: Vec<Ticket>,
     ) -> Result<(Vec<Receipt>, Vec<Ticket>), (AllocError, Vec<Ticket>)> {
-        self.shared.collect(self.rt, alloc, tickets)
+        match self.shared.collect(self.rt, alloc, tickets) {
+            Ok((receipts, back, _)) => Ok((receipts, back)),
+            Err(failed) => Err(failed),
+        }
     }
 
     fn abandon(&mut self, ticket: Ticket) {

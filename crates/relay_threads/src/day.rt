@@ -1,12 +1,16 @@
 //! Two threads admit a hundred requests each, and two workers send them.
 
-ghost use Rattle.std.specs.Prelude.{◌≡◌, ◌+◌, IfOk};
+ghost use Rattle.std.specs.Prelude.{◌≡◌, ◌+◌, ◌<◌, IfOk};
 
 use crate::batches::output;
 use crate::memory::Open;
+use crate::paging::paged;
 use crate::turns::{Load, Post, admits, collected, works};
 use anyhow::Result;
-use fwd_output::{Closing, Ledgered, Locked, Seat, SharedOutput, Tally, Ticket, open};
+use fwd_history::Run;
+use fwd_output::{
+    Closing, Ledgered, Locked, OpenedOutputs, Seat, SharedOutput, Tally, Ticket, open,
+};
 use std::alloc::Global;
 use std::marker::Brand;
 use std::sync::Wait;
@@ -25,7 +29,11 @@ pub struct Day {
 }
 
 /// Two threads admit, each from its seat.
-pub fn admit_both<L: Ledger + Send + Sync, M: Ledger + Send + Sync, R: Threads + Wait + Sync>(
+pub fn admit_both<
+    L: Ledger + Run + Send + Sync,
+    M: Ledger + Run + Send + Sync,
+    R: Threads + Wait + Sync,
+>(
     rt: &R,
     alloc: Global,
     out: &SharedOutput<Ledgered<L>, Ledgered<M>>,
@@ -42,7 +50,11 @@ pub fn admit_both<L: Ledger + Send + Sync, M: Ledger + Send + Sync, R: Threads +
 }
 
 /// Two workers send, each with its seat and a window of so many chunks.
-fn work_both<L: Ledger + Send + Sync, M: Ledger + Send + Sync, R: Threads + Wait + Sync>(
+fn work_both<
+    L: Ledger + Run + Send + Sync,
+    M: Ledger + Run + Send + Sync,
+    R: Threads + Wait + Sync,
+>(
     rt: &R,
     alloc: Global,
     out: &SharedOutput<Ledgered<L>, Ledgered<M>>,
@@ -70,23 +82,26 @@ fn work_both<L: Ledger + Send + Sync, M: Ledger + Send + Sync, R: Threads + Wait
 }
 
 /// A day by these two ledgers, whose parts are two each, with windows of so many chunks.
-fn day_by<L: Ledger + Send + Sync, M: Ledger + Send + Sync, R: Threads + Wait + Sync>(
+fn day_by<L: Ledger + Run + Send + Sync, M: Ledger + Run + Send + Sync, R: Threads + Wait + Sync>(
     rt: &R,
     alloc: Global,
-    admitting: Blank,
-    working: Blank,
+    opened: OpenedOutputs,
+    ledgers: (Blank, Blank),
     window: u8,
 ) -> Result<Day>
-    requires admitting { (admitting.name ≡ L.name) × (admitting.parts ≡ L.parts) × (L.parts ≡ 2) }
-    requires working { (working.name ≡ M.name) × (working.parts ≡ M.parts) × (M.parts ≡ 2) }
+    requires opened { (opened.book ≡ L.book) × (0 < opened.pages) }
+    requires admitting { (ledgers.0.name ≡ L.name) × (ledgers.0.parts ≡ L.parts)
+        × (L.parts ≡ 2) }
+    requires working { (ledgers.1.name ≡ M.name) × (ledgers.1.parts ≡ M.parts) × (M.parts ≡ 2) }
     ensures { IfOk result (λ day. day.closing.accepted ≡ day.closing.settled + day.closing.left) }
 {
+    let (admitting, working) = ledgers;
     let (accepted, mut first) = open::<L>(admitting);
     let (settled, mut third) = open::<M>(working);
     let second = Ledgered::<L>::split(&mut first, 1);
     let fourth = Ledgered::<M>::split(&mut third, 1);
-    let state = output(alloc, 10, 100_000)?;
-    let shared = SharedOutput::new(Locked::new(alloc, state, accepted, settled));
+    let begun = paged::<L>(alloc, opened, output(10, 100_000))?;
+    let shared = SharedOutput::new(Locked::new(alloc, begun, accepted, settled));
     let out = &shared;
     let (admitted, worked) = thread::join(
         rt,
@@ -118,5 +133,6 @@ fn day_by<L: Ledger + Send + Sync, M: Ledger + Send + Sync, R: Threads + Wait + 
 pub fn whole_day<R: Threads + Wait + Sync>(rt: &R, alloc: Global, window: u8) -> Result<Day>
     ensures { IfOk result (λ day. day.closing.accepted ≡ day.closing.settled + day.closing.left) }
 {
-    day_by::<Brand, Brand, R>(rt, alloc, Blank::new(2), Blank::new(2), window)
+    let ledgers = (Blank::new(2), Blank::new(2));
+    day_by::<Brand, Brand, R>(rt, alloc, OpenedOutputs::new(1), ledgers, window)
 }

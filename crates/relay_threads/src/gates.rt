@@ -1,6 +1,7 @@
 //! Two workers at work at once: a gate lets neither settle alone.
 
 use crate::turns::{Post, works};
+use fwd_history::Run;
 use fwd_output::{Plain, SharedOutput};
 use fwd_workers::{Gate, Pass, Place};
 use std::alloc::Global;
@@ -73,10 +74,10 @@ impl<'a, T: Clock> Gate for Both<'a, T> {
 }
 
 /// Whether each of two workers was stopped by the gate, and did not spend its turns.
-pub fn both_work<R: Threads + Wait + Clock + Sync>(
+pub fn both_work<J: Run + Send + Sync, R: Threads + Wait + Clock + Sync>(
     rt: &R,
     alloc: Global,
-    out: &SharedOutput<Plain, Plain>,
+    out: &SharedOutput<Plain<J>, Plain<J>>,
 ) -> (bool, bool) {
     let sight = Sight::new();
     let seen = &sight;

@@ -1,23 +1,28 @@
 //! The life of one worker over links in memory: what it is asked, what it sends and gets, what it
 //! tells, and how it leaves its output.
 
+ghost use Rattle.std.specs.Prelude.{◌≡◌, ◌≤◌, ◌^◌, false, length, Contains};
+
 use crate::acts::KEY;
 use crate::batches::{login_with, output_at, output_of_one, output_of_three, terms_of};
+use crate::paging::paged;
 use crate::played::{Meetings, PlayedHub};
 use crate::record::Record;
 use crate::turns::{Load, abandon_all, admits};
 use crate::watched::{Interrupt, Ticking, Watched};
 use anyhow::Result;
+use fwd_history::Run;
 use fwd_model::FlushKind;
-use fwd_output::{Locked, Plain, SharedOutput};
+use fwd_output::{Locked, OpenedOutputs, OutputSetup, Plain, SharedOutput};
 use fwd_workers::{Worker, WorkerEnd};
 use rand_chacha::ChaCha20Rng;
 use rand_core::SeedableRng;
 use std::alloc::Global;
+use std::marker::Brand;
 use std::sync::Wait;
 
 /// An output that is shared.
-type Out = SharedOutput<Plain, Plain>;
+type Out<J> = SharedOutput<Plain<J>, Plain<J>>;
 
 /// Which servers an output has: for each whether it is a standby.
 #[derive(Clone, Copy)]
@@ -75,20 +80,29 @@ pub const PLAIN: Life = Life {
     looks: [0; 3],
 };
 
-/// The output of a life before its first request, and its counters.
-fn locked(alloc: Global, life: Life) -> Result<Locked<Plain, Plain>> {
+/// What the output of a life begins with.
+fn setup_of(life: Life) -> OutputSetup<'static>
+    ensures { (length result.standby.now ≤ 16) × Contains result.standby.now false }
+{
     let chunk = if life.is_closed { 3 } else { 1000 };
-    let state = match life.servers {
-        Servers::One => output_of_one(alloc, chunk, 100_000)?,
-        Servers::Two => output_at(alloc, life.output, chunk, 100_000)?,
-        Servers::Three => output_of_three(alloc, chunk, 100_000)?,
-    };
-    Ok(Locked::new(alloc, state, Plain::new(0), Plain::new(0)))
+    match life.servers {
+        Servers::One => output_of_one(chunk, 100_000),
+        Servers::Two => output_at(life.output, chunk, 100_000),
+        Servers::Three => output_of_three(chunk, 100_000),
+    }
 }
 
 /// The output of a life before its first turn.
-fn output_of<R: Wait>(rt: &R, alloc: Global, life: Life) -> Result<Out> {
-    let out = SharedOutput::new(locked(alloc, life)?);
+fn output_of<J: Run, R: Wait>(
+    rt: &R,
+    alloc: Global,
+    life: Life,
+    opened: OpenedOutputs,
+) -> Result<Out<J>>
+    requires { (opened.book ≡ J.book) × (opened.pages ≡ 2 ^ 16) }
+{
+    let begun = paged::<J>(alloc, opened, setup_of(life))?;
+    let out = SharedOutput::new(Locked::new(alloc, begun, Plain::new(0), Plain::new(0)));
     let load = Load::new(1, life.requests);
     let ((), tickets) = admits(rt, alloc, &out, (), load);
     abandon_all(rt, &out, tickets);
@@ -100,14 +114,14 @@ fn output_of<R: Wait>(rt: &R, alloc: Global, life: Life) -> Result<Out> {
 
 /// A life that is being told.
 #[derive(Drop)]
-struct Telling {
+struct Telling<J: Run> {
     alloc: Global,
     life: Life,
-    out: Out,
+    out: Out<J>,
     record: Record,
 }
 
-impl Telling {
+impl<J: Run> Telling<J> {
     /// The run of the worker.
     fn run<R: Wait>(&self, rt: &R) -> Result<WorkerEnd> {
         let Life {
@@ -173,12 +187,19 @@ impl Telling {
     }
 }
 
-/// All that happens in a life.
-pub fn lived<R: Wait>(rt: &R, alloc: Global, life: Life) -> Result<String> {
+/// All that happens in a life, in a run that this history is of.
+fn lived_by<J: Run, R: Wait>(
+    rt: &R,
+    alloc: Global,
+    life: Life,
+    opened: OpenedOutputs,
+) -> Result<String>
+    requires { (opened.book ≡ J.book) × (opened.pages ≡ 2 ^ 16) }
+{
     let telling = Telling {
         alloc,
         life,
-        out: output_of(rt, alloc, life)?,
+        out: output_of::<J, R>(rt, alloc, life, opened)?,
         record: Record::new(alloc)?,
     };
     telling.record.note(rt, life.name);
@@ -189,4 +210,9 @@ pub fn lived<R: Wait>(rt: &R, alloc: Global, life: Life) -> Result<String> {
     telling.note_look(rt, second);
     telling.note_look(rt, third);
     Ok(telling.record.text(rt)?)
+}
+
+/// All that happens in a life.
+pub fn lived<R: Wait>(rt: &R, alloc: Global, life: Life) -> Result<String> {
+    lived_by::<Brand, R>(rt, alloc, life, OpenedOutputs::new(65_536))
 }

@@ -3,9 +3,12 @@
 //! compilers build it.
 #![tactic(auto)]
 
+ghost use Rattle.std.specs.Prelude.{◌≡◌, ◌<◌};
+
 mod acts;
 mod batches;
 mod calls;
+mod connects;
 mod day;
 mod faulty;
 mod gates;
@@ -13,6 +16,7 @@ mod life;
 mod lives;
 mod memory;
 mod mirror;
+mod paging;
 mod played;
 mod readers;
 mod record;
@@ -26,11 +30,14 @@ mod watched;
 
 use crate::batches::output;
 use crate::mirror::{Story, are_alike, played_bare, played_behind};
+use crate::paging::paged;
 use crate::turns::Load;
 use anyhow::Result;
+use fwd_history::Run;
 use fwd_model::FlushKind;
-use fwd_output::{Closing, Locked, Plain, SharedOutput};
+use fwd_output::{Closing, Locked, OpenedOutputs, Plain, SharedOutput};
 use std::alloc::Global;
+use std::marker::Brand;
 use std::rt::Clock;
 use std::sync::Wait;
 use std::thread::Threads;
@@ -48,12 +55,6 @@ const STORIES: [Story; 10] = [
     Story::Returns,
     Story::Again,
 ];
-
-/// An output of these limits behind its lock, with plain counters.
-fn shared(alloc: Global, chunk: u32) -> Result<SharedOutput<Plain, Plain>> {
-    let state = output(alloc, chunk, 100_000)?;
-    Ok(SharedOutput::new(Locked::new(alloc, state, Plain::new(0), Plain::new(0))))
-}
 
 /// Two threads admit and two workers send, each with a window of so many chunks, and what the
 /// ledgers say at the close.
@@ -98,15 +99,27 @@ fn tell_readers<R: Threads + Wait + Sync + Print>(rt: &R, alloc: Global) -> Resu
     Ok(())
 }
 
-/// Two workers that settle only together.
-fn tell_gates<R: Threads + Wait + Clock + Sync + Print>(rt: &R, alloc: Global) -> Result<()> {
-    let out = shared(alloc, 2)?;
+/// Two workers that settle only together, in a run that this history is of.
+fn tell_gates_by<J: Run + Send + Sync, R: Threads + Wait + Clock + Sync + Print>(
+    rt: &R,
+    alloc: Global,
+    opened: OpenedOutputs,
+) -> Result<()>
+    requires { (opened.book ≡ J.book) × (0 < opened.pages) }
+{
+    let begun = paged::<J>(alloc, opened, output(2, 100_000))?;
+    let out = SharedOutput::new(Locked::new(alloc, begun, Plain::new(0), Plain::new(0)));
     let ((), tickets) = turns::admits(rt, alloc, &out, (), Load::new(1, 2));
     out.flush(rt, 0, FlushKind::All);
     let stopped = gates::both_work(rt, alloc, &out);
     let (receipts, left) = turns::collected(rt, alloc, &out, tickets);
     let _ = println!(rt; "at once: stopped {stopped:?}, receipts {receipts}, left {left}");
     Ok(())
+}
+
+/// Two workers that settle only together.
+fn tell_gates<R: Threads + Wait + Clock + Sync + Print>(rt: &R, alloc: Global) -> Result<()> {
+    tell_gates_by::<Brand, R>(rt, alloc, OpenedOutputs::new(1))
 }
 
 /// The stories, with and without a lock.
@@ -156,6 +169,7 @@ fn main(rt: HostRuntime) -> Result<()> {
     tell_stories(&rt, alloc)?;
     lives::tell_all(&rt, alloc)?;
     trials::tell_all(&rt, alloc)?;
+    connects::tell_all(&rt, alloc)?;
     tell_served(&rt, alloc)?;
     tell_turns(&rt, alloc)?;
     tell_day(&rt, alloc, 1)?;

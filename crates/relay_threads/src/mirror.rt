@@ -1,7 +1,7 @@
 //! The same calls on an output and on the same output behind its lock: equal answers, and equal
 //! counts after each.
 
-ghost use Rattle.std.specs.Prelude.{◌≡◌, IfSome, IfOk, None};
+ghost use Rattle.std.specs.Prelude.{◌≡◌, ◌<◌, ◌≤◌, false, length, Contains, IfSome, IfOk, None};
 ghost use Rattle.std.specs.Arc.{arc_value};
 ghost use Rattle.fwd_session.specs.ServerAcks.{IsServerAck};
 
@@ -10,13 +10,16 @@ use crate::batches::{
     output_of_three, terms,
 };
 use crate::calls::{Behind, Output};
+use crate::paging::paged;
 use anyhow::Result;
 use fwd_base::Bytes;
 use fwd_chunks::Carried;
+use fwd_history::Run;
 use fwd_model::{Counts, FlushKind, Origin, OwnedSalt};
-use fwd_output::{AdmitRefusal, Locked, Plain, SharedOutput, Ticket};
+use fwd_output::{AdmitRefusal, Locked, OpenedOutputs, OutputSetup, Plain, SharedOutput, Ticket};
 use fwd_session::{Acked, LoadFailed, Session};
 use std::alloc::Global;
+use std::marker::Brand;
 use std::mem;
 use std::sync::{Arc, Wait};
 
@@ -403,27 +406,61 @@ fn played<O: Output>(alloc: Global, out: &mut O, story: Story) -> Notes {
     play.end_play()
 }
 
-/// An output and its counters.
-fn locked(alloc: Global, story: Story) -> Result<Locked<Plain, Plain>> {
+/// What the output of a story begins with.
+fn setup_of(story: Story) -> OutputSetup<'static>
+    ensures number { result.output ≡ 0 }
+    ensures servers { (length result.standby.now ≤ 16) × Contains result.standby.now false }
+{
     let (chunk, total) = story.limits();
-    let state = match story {
-        Story::Choices => output_of_three(alloc, chunk, total)?,
-        _ => output(alloc, chunk, total)?,
-    };
-    Ok(Locked::new(alloc, state, Plain::new(0), Plain::new(0)))
+    match story {
+        Story::Choices => output_of_three(chunk, total),
+        _ => output(chunk, total),
+    }
+}
+
+/// An output and its counters, in a run that this history is of.
+fn locked<J: Run>(
+    alloc: Global,
+    story: Story,
+    opened: OpenedOutputs,
+) -> Result<Locked<Plain<J>, Plain<J>>>
+    requires { (opened.book ≡ J.book) × (0 < opened.pages) }
+{
+    let begun = paged::<J>(alloc, opened, setup_of(story))?;
+    Ok(Locked::new(alloc, begun, Plain::new(0), Plain::new(0)))
+}
+
+/// What a story's calls answer on an output itself, in a run that this history is of.
+fn played_bare_by<J: Run>(alloc: Global, story: Story, opened: OpenedOutputs) -> Result<Notes>
+    requires { (opened.book ≡ J.book) × (0 < opened.pages) }
+{
+    let mut out = locked::<J>(alloc, story, opened)?;
+    Ok(played(alloc, &mut out, story))
 }
 
 /// What a story's calls answer on an output itself.
 pub fn played_bare(alloc: Global, story: Story) -> Result<Notes> {
-    let mut out = locked(alloc, story)?;
-    Ok(played(alloc, &mut out, story))
+    played_bare_by::<Brand>(alloc, story, OpenedOutputs::new(1))
+}
+
+/// What a story's calls answer on the same output behind its lock, in a run that this history is
+/// of.
+fn played_behind_by<J: Run, R: Wait>(
+    rt: &R,
+    alloc: Global,
+    story: Story,
+    opened: OpenedOutputs,
+) -> Result<Notes>
+    requires { (opened.book ≡ J.book) × (0 < opened.pages) }
+{
+    let shared = SharedOutput::new(locked::<J>(alloc, story, opened)?);
+    let mut behind = Behind { rt, shared };
+    Ok(played(alloc, &mut behind, story))
 }
 
 /// What a story's calls answer on the same output behind its lock.
 pub fn played_behind<R: Wait>(rt: &R, alloc: Global, story: Story) -> Result<Notes> {
-    let shared = SharedOutput::new(locked(alloc, story)?);
-    let mut behind = Behind { rt, shared };
-    Ok(played(alloc, &mut behind, story))
+    played_behind_by::<Brand, R>(rt, alloc, story, OpenedOutputs::new(1))
 }
 
 /// Whether an output answered alike, with and without its lock, and counted alike after each call.

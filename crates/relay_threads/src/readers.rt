@@ -1,15 +1,19 @@
 //! Four readers: each admits from a seat of its own, and keeps the tickets of its requests to
 //! itself, while workers send.
 
-ghost use Rattle.std.specs.Prelude.{◌≡◌, ◌+◌, IfOk};
+ghost use Rattle.std.specs.Prelude.{◌≡◌, ◌+◌, ◌<◌, IfOk};
 
 use crate::batches::{MESSAGE, batch, output};
 use crate::memory::Open;
+use crate::paging::paged;
 use crate::turns::{Post, abandon_all, works};
 use anyhow::Result;
 use fwd_book::Receipt;
+use fwd_history::Run;
 use fwd_model::{FlushKind, Origin};
-use fwd_output::{Closing, Ledgered, Locked, Seat, SharedOutput, Tally, Ticket, open};
+use fwd_output::{
+    Closing, Ledgered, Locked, OpenedOutputs, Seat, SharedOutput, Tally, Ticket, open,
+};
 use std::alloc::Global;
 use std::marker::Brand;
 use std::sync::Wait;
@@ -58,7 +62,7 @@ impl Store {
     }
 
     /// The reader admits a request of one entry from its seat.
-    fn admit<L: Ledger, M: Ledger, R: Wait>(
+    fn admit<L: Ledger + Run, M: Ledger + Run, R: Wait>(
         &mut self,
         rt: &R,
         alloc: Global,
@@ -82,7 +86,7 @@ impl Store {
     }
 
     /// The reader collects receipts for its tickets.
-    fn collect<L: Ledger, M: Ledger, R: Wait>(
+    fn collect<L: Ledger + Run, M: Ledger + Run, R: Wait>(
         &mut self,
         rt: &R,
         alloc: Global,
@@ -90,7 +94,7 @@ impl Store {
     ) {
         let tickets = mem::replace(&mut self.tickets, Vec::new(alloc));
         match out.collect(rt, alloc, tickets) {
-            Ok((receipts, left)) => {
+            Ok((receipts, left, _)) => {
                 mem::replace(&mut self.tickets, left).destroy_empty();
                 self.note(&receipts);
             }
@@ -110,7 +114,7 @@ impl Store {
 
     /// What the reader was told in the end, once it has collected again. The tickets that are left
     /// are abandoned.
-    fn end<L: Ledger, M: Ledger, R: Wait>(
+    fn end<L: Ledger + Run, M: Ledger + Run, R: Wait>(
         self,
         rt: &R,
         alloc: Global,
@@ -129,7 +133,7 @@ impl Store {
 }
 
 /// The reader of this number admits its requests, and collects between them.
-fn read<L: Ledger, M: Ledger, R: Wait>(
+fn read<L: Ledger + Run, M: Ledger + Run, R: Wait>(
     rt: &R,
     alloc: Global,
     out: &Counted<L, M>,
@@ -150,7 +154,7 @@ fn read<L: Ledger, M: Ledger, R: Wait>(
 }
 
 /// Two readers of these seats, each in a thread of its own, the first of this number.
-fn read_two<L: Ledger + Send + Sync, M: Ledger + Send + Sync, R: Threads + Wait + Sync>(
+fn read_two<L: Ledger + Run + Send + Sync, M: Ledger + Run + Send + Sync, R: Threads + Wait + Sync>(
     rt: &R,
     alloc: Global,
     out: &Counted<L, M>,
@@ -168,12 +172,11 @@ fn read_two<L: Ledger + Send + Sync, M: Ledger + Send + Sync, R: Threads + Wait 
 }
 
 /// Four readers of these seats, each in a thread of its own.
-fn read_four<L: Ledger + Send + Sync, M: Ledger + Send + Sync, R: Threads + Wait + Sync>(
-    rt: &R,
-    alloc: Global,
-    out: &Counted<L, M>,
-    seats: Pairs<Seat<L>>,
-) -> Pairs<(Seat<L>, Store)>
+fn read_four<
+    L: Ledger + Run + Send + Sync,
+    M: Ledger + Run + Send + Sync,
+    R: Threads + Wait + Sync,
+>(rt: &R, alloc: Global, out: &Counted<L, M>, seats: Pairs<Seat<L>>) -> Pairs<(Seat<L>, Store)>
     ensures { (result.0.0.0.parts ≡ seats.0.0.parts) × (result.0.1.0.parts ≡ seats.0.1.parts)
         × (result.1.0.0.parts ≡ seats.1.0.parts) × (result.1.1.0.parts ≡ seats.1.1.parts) }
 {
@@ -186,7 +189,7 @@ fn read_four<L: Ledger + Send + Sync, M: Ledger + Send + Sync, R: Threads + Wait
 }
 
 /// A worker sends, and with it all that was admitted.
-fn work_off<L: Ledger, M: Ledger, R: Wait>(
+fn work_off<L: Ledger + Run, M: Ledger + Run, R: Wait>(
     rt: &R,
     alloc: Global,
     out: &Counted<L, M>,
@@ -207,12 +210,12 @@ pub struct Readers {
 }
 
 /// Four readers and a worker by these two ledgers, of four parts and of one.
-fn readers_by<L: Ledger + Send + Sync, M: Ledger + Send + Sync, R: Threads + Wait + Sync>(
-    rt: &R,
-    alloc: Global,
-    admitting: Blank,
-    working: Blank,
-) -> Result<Readers>
+fn readers_by<
+    L: Ledger + Run + Send + Sync,
+    M: Ledger + Run + Send + Sync,
+    R: Threads + Wait + Sync,
+>(rt: &R, alloc: Global, opened: OpenedOutputs, admitting: Blank, working: Blank) -> Result<Readers>
+    requires opened { (opened.book ≡ L.book) × (0 < opened.pages) }
     requires admitting { (admitting.name ≡ L.name) × (admitting.parts ≡ L.parts) × (L.parts ≡ 4) }
     requires working { (working.name ≡ M.name) × (working.parts ≡ M.parts) × (M.parts ≡ 1) }
     ensures { IfOk result (λ all. all.closing.accepted ≡ all.closing.settled + all.closing.left) }
@@ -222,8 +225,8 @@ fn readers_by<L: Ledger + Send + Sync, M: Ledger + Send + Sync, R: Threads + Wai
     let second = Ledgered::<L>::split(&mut first, 1);
     let third = Ledgered::<L>::split(&mut first, 1);
     let fourth = Ledgered::<L>::split(&mut first, 1);
-    let state = output(alloc, 10, 100_000)?;
-    let shared = SharedOutput::new(Locked::new(alloc, state, accepted, settled));
+    let begun = paged::<L>(alloc, opened, output(10, 100_000))?;
+    let shared = SharedOutput::new(Locked::new(alloc, begun, accepted, settled));
     let out = &shared;
     let (read, worker) = thread::join(
         rt,
@@ -257,5 +260,6 @@ fn readers_by<L: Ledger + Send + Sync, M: Ledger + Send + Sync, R: Threads + Wai
 pub fn four_readers<R: Threads + Wait + Sync>(rt: &R, alloc: Global) -> Result<Readers>
     ensures { IfOk result (λ all. all.closing.accepted ≡ all.closing.settled + all.closing.left) }
 {
-    readers_by::<Brand, Brand, R>(rt, alloc, Blank::new(4), Blank::new(1))
+    let opened = OpenedOutputs::new(1);
+    readers_by::<Brand, Brand, R>(rt, alloc, opened, Blank::new(4), Blank::new(1))
 }

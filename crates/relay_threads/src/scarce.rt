@@ -3,17 +3,19 @@
 //! refuse the first request for memory, the second, and so on. Each part has a second try, since
 //! memory may be refused where it begins.
 
-ghost use Rattle.std.specs.Prelude.{◌≡◌, ◌+◌, IfOk};
+ghost use Rattle.std.specs.Prelude.{◌≡◌, ◌+◌, ◌<◌, IfOk};
 
 use crate::batches::output;
 use crate::day::admit_both;
+use crate::paging::paged;
 use crate::print_closing;
 use crate::serving::well;
 use crate::trials::{CALM, Trial, Witness};
 use crate::turns::collected;
 use anyhow::Result;
+use fwd_history::Run;
 use fwd_model::FlushKind;
-use fwd_output::{Closing, Ledgered, Locked, SharedOutput, Tally, open};
+use fwd_output::{Closing, Ledgered, Locked, OpenedOutputs, SharedOutput, Tally, open};
 use std::alloc::Global;
 use std::env;
 use std::marker::Brand;
@@ -37,12 +39,14 @@ struct Outcome {
 }
 
 /// Two threads admit a hundred requests each, and then one worker sends, by these two ledgers.
-fn alone_by<L: Ledger + Send + Sync, M: Ledger + Send + Sync, R: Threads + Wait + Sync>(
+fn alone_by<L: Ledger + Run + Send + Sync, M: Ledger + Run + Send + Sync, R: Threads + Wait + Sync>(
     rt: &R,
     alloc: Global,
+    opened: OpenedOutputs,
     admitting: Blank,
     working: Blank,
 ) -> Result<Outcome>
+    requires opened { (opened.book ≡ L.book) × (0 < opened.pages) }
     requires admitting { (admitting.name ≡ L.name) × (admitting.parts ≡ L.parts) × (L.parts ≡ 2) }
     requires working { (working.name ≡ M.name) × (working.parts ≡ M.parts) × (M.parts ≡ 1) }
     ensures { IfOk result (λ outcome.
@@ -52,8 +56,8 @@ fn alone_by<L: Ledger + Send + Sync, M: Ledger + Send + Sync, R: Threads + Wait 
     let (settled, seat) = open::<M>(working);
     let other = Ledgered::<L>::split(&mut one, 1);
     let witness = Witness::new(alloc)?;
-    let state = output(alloc, 10, 100_000)?;
-    let out = SharedOutput::new(Locked::new(alloc, state, accepted, settled));
+    let begun = paged::<L>(alloc, opened, output(10, 100_000))?;
+    let out = SharedOutput::new(Locked::new(alloc, begun, accepted, settled));
     let ((one, tickets), (other, others)) = admit_both(rt, alloc, &out, one, other);
     out.flush(rt, 0, FlushKind::All);
     let seat = BUSY.work(rt, alloc, &out, seat, &witness);
@@ -73,7 +77,8 @@ fn alone<R: Threads + Wait + Sync>(rt: &R, alloc: Global) -> Result<Outcome>
     ensures { IfOk result (λ outcome.
         outcome.closing.accepted ≡ outcome.closing.settled + outcome.closing.left) }
 {
-    alone_by::<Brand, Brand, R>(rt, alloc, Blank::new(2), Blank::new(1))
+    let opened = OpenedOutputs::new(1);
+    alone_by::<Brand, Brand, R>(rt, alloc, opened, Blank::new(2), Blank::new(1))
 }
 
 /// Whether nothing else is to be played.

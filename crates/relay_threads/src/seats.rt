@@ -5,11 +5,13 @@ ghost use Rattle.std.specs.Prelude.{◌≡◌, ◌+◌, ◌<◌, ◌≤◌, IfOk
 
 use crate::batches::{login, output, terms};
 use crate::memory::{Open, Still, Wires};
+use crate::paging::paged;
 use crate::thread_share::Hand;
 use crate::turns::{Load, Post, abandon_all, admits, works};
 use anyhow::Result;
+use fwd_history::Run;
 use fwd_model::FlushKind;
-use fwd_output::{Closing, Ledgered, Locked, Seat, SharedOutput, Tally, open};
+use fwd_output::{Closing, Ledgered, Locked, OpenedOutputs, Seat, SharedOutput, Tally, open};
 use fwd_workers::{Gate, Pass, Place, Worker};
 use rand_chacha::ChaCha20Rng;
 use rand_core::SeedableRng;
@@ -25,7 +27,7 @@ use std::thread::Threads;
 type Counted<L, M> = SharedOutput<Ledgered<L>, Ledgered<M>>;
 
 /// Splits seats of one part each off a seat, so many of them.
-fn deal<L: Ledger>(
+fn deal<L: Ledger + Run>(
     alloc: Global,
     all: Seat<L>,
     count: u16,
@@ -43,7 +45,7 @@ fn deal<L: Ledger>(
 }
 
 /// Joins these seats to a seat.
-fn join_all<L: Ledger>(all: Seat<L>, hands: Vec<Hand<L>>) -> Seat<L>
+fn join_all<L: Ledger + Run>(all: Seat<L>, hands: Vec<Hand<L>>) -> Seat<L>
     ensures { result.parts ≡ all.parts + vec_len hands }
 {
     let mut all = all;
@@ -56,7 +58,7 @@ fn join_all<L: Ledger>(all: Seat<L>, hands: Vec<Hand<L>>) -> Seat<L>
 }
 
 /// A thread admits 25 requests from its seat, and abandons them: their entries stay.
-fn admit_hand<L: Ledger, M: Ledger, R: Wait>(
+fn admit_hand<L: Ledger + Run, M: Ledger + Run, R: Wait>(
     rt: &R,
     alloc: Global,
     out: &Counted<L, M>,
@@ -85,7 +87,7 @@ impl Gate for Until<'_> {
 }
 
 /// A worker sends with its seat until all is admitted.
-fn work_hand<L: Ledger, M: Ledger, R: Wait>(
+fn work_hand<L: Ledger + Run, M: Ledger + Run, R: Wait>(
     rt: &R,
     alloc: Global,
     out: &Counted<L, M>,
@@ -105,7 +107,11 @@ fn work_hand<L: Ledger, M: Ledger, R: Wait>(
 }
 
 /// Threads admit, a hand each, and then it is told that all is admitted.
-fn admit_all<L: Ledger + Send + Sync, M: Ledger + Send + Sync, R: Threads + Wait + Sync>(
+fn admit_all<
+    L: Ledger + Run + Send + Sync,
+    M: Ledger + Run + Send + Sync,
+    R: Threads + Wait + Sync,
+>(
     rt: &R,
     alloc: Global,
     out: &Counted<L, M>,
@@ -120,7 +126,7 @@ fn admit_all<L: Ledger + Send + Sync, M: Ledger + Send + Sync, R: Threads + Wait
 }
 
 /// Workers send, a hand each.
-fn work_all<L: Ledger + Send + Sync, M: Ledger + Send + Sync, R: Threads + Wait + Sync>(
+fn work_all<L: Ledger + Run + Send + Sync, M: Ledger + Run + Send + Sync, R: Threads + Wait + Sync>(
     rt: &R,
     alloc: Global,
     out: &Counted<L, M>,
@@ -133,7 +139,7 @@ fn work_all<L: Ledger + Send + Sync, M: Ledger + Send + Sync, R: Threads + Wait 
 }
 
 /// The hands that admitted, and those that worked at the same time.
-fn run_both<L: Ledger + Send + Sync, M: Ledger + Send + Sync, R: Threads + Wait + Sync>(
+fn run_both<L: Ledger + Run + Send + Sync, M: Ledger + Run + Send + Sync, R: Threads + Wait + Sync>(
     rt: &R,
     alloc: Global,
     out: &Counted<L, M>,
@@ -156,7 +162,7 @@ fn run_both<L: Ledger + Send + Sync, M: Ledger + Send + Sync, R: Threads + Wait 
 }
 
 /// From a seat that was joined three more requests are admitted, which stay open.
-fn admit_more<L: Ledger, M: Ledger, R: Wait>(
+fn admit_more<L: Ledger + Run, M: Ledger + Run, R: Wait>(
     rt: &R,
     alloc: Global,
     out: &Counted<L, M>,
@@ -170,7 +176,7 @@ fn admit_more<L: Ledger, M: Ledger, R: Wait>(
 }
 
 /// From a seat that was joined a worker sends all that was admitted.
-fn work_off<L: Ledger, M: Ledger, R: Wait>(
+fn work_off<L: Ledger + Run, M: Ledger + Run, R: Wait>(
     rt: &R,
     alloc: Global,
     out: &Counted<L, M>,
@@ -191,12 +197,14 @@ pub struct Sums {
 }
 
 /// The sums by two ledgers of nine and of five parts.
-fn sums_by<L: Ledger + Send + Sync, M: Ledger + Send + Sync, R: Threads + Wait + Sync>(
+fn sums_by<L: Ledger + Run + Send + Sync, M: Ledger + Run + Send + Sync, R: Threads + Wait + Sync>(
     rt: &R,
     alloc: Global,
+    opened: OpenedOutputs,
     admitting: Blank,
     working: Blank,
 ) -> Result<Sums>
+    requires opened { (opened.book ≡ L.book) × (0 < opened.pages) }
     requires admitting { (admitting.name ≡ L.name) × (admitting.parts ≡ L.parts) × (L.parts ≡ 9) }
     requires working { (working.name ≡ M.name) × (working.parts ≡ M.parts) × (M.parts ≡ 5) }
     ensures { IfOk result (λ sums.
@@ -206,8 +214,8 @@ fn sums_by<L: Ledger + Send + Sync, M: Ledger + Send + Sync, R: Threads + Wait +
     let (settled, work_seat) = open::<M>(working);
     let (admit_seat, admit_hands) = deal(alloc, admit_seat, 8)?;
     let (work_seat, work_hands) = deal(alloc, work_seat, 4)?;
-    let state = output(alloc, 10, 100_000)?;
-    let out = SharedOutput::new(Locked::new(alloc, state, accepted, settled));
+    let begun = paged::<L>(alloc, opened, output(10, 100_000))?;
+    let out = SharedOutput::new(Locked::new(alloc, begun, accepted, settled));
     let (admitted, worked) = run_both(rt, alloc, &out, admit_hands, work_hands);
     let work_seat = work_off(rt, alloc, &out, join_all(work_seat, worked?));
     let admit_seat = admit_more(rt, alloc, &out, join_all(admit_seat, admitted?));
@@ -224,5 +232,6 @@ pub fn eight_and_four<R: Threads + Wait + Sync>(rt: &R, alloc: Global) -> Result
     ensures { IfOk result (λ sums.
         sums.closing.accepted ≡ sums.closing.settled + sums.closing.left) }
 {
-    sums_by::<Brand, Brand, R>(rt, alloc, Blank::new(9), Blank::new(5))
+    let opened = OpenedOutputs::new(1);
+    sums_by::<Brand, Brand, R>(rt, alloc, opened, Blank::new(9), Blank::new(5))
 }

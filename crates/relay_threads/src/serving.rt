@@ -53,7 +53,8 @@ fn admit_one(alloc: Global, state: &mut OutputState) -> Result<()> {
 
 /// An output with one chunk, which is closed.
 fn closed_output(alloc: Global) -> Result<OutputState> {
-    let mut state = output(alloc, 1000, 100_000)?;
+    let setup = output(1000, 100_000);
+    let mut state = OutputState::new(alloc, setup.limits, setup.run, setup.output, setup.standby)?;
     admit_one(alloc, &mut state)?;
     state.flush(0, FlushKind::All);
     Ok(state)

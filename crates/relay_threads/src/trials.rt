@@ -1,16 +1,18 @@
 //! Trials of one worker: its links fail, its servers lie, or its gate stops it.
 
-ghost use Rattle.std.specs.Prelude.{◌≡◌, ◌+◌, ◌≤◌, IfOk};
+ghost use Rattle.std.specs.Prelude.{◌≡◌, ◌+◌, ◌<◌, ◌≤◌, IfOk};
 
 use crate::batches::{login, output, terms};
 use crate::faulty::{FaultyHub, Got, Wrong};
+use crate::paging::paged;
 use crate::print_closing;
 use crate::record::Record;
 use crate::turns::{Load, abandon_all, admits};
 use crate::watched::{Ticking, news_text, place_name};
 use anyhow::Result;
+use fwd_history::Run;
 use fwd_model::FlushKind;
-use fwd_output::{Closing, Ledgered, Locked, SharedOutput, Tally, open};
+use fwd_output::{Closing, Ledgered, Locked, OpenedOutputs, SharedOutput, Tally, open};
 use fwd_workers::{Gate, LinkFault, LossReason, Pass, Place, Worker, WorkerEnd, WorkerEvent};
 use rand_chacha::ChaCha20Rng;
 use rand_core::SeedableRng;
@@ -166,23 +168,26 @@ struct Tried {
 }
 
 /// A trial, by two ledgers of one part each.
-fn tried_by<L: Ledger, M: Ledger, R: Wait>(
+fn tried_by<L: Ledger + Run, M: Ledger + Run, R: Wait>(
     rt: &R,
     alloc: Global,
-    admitting: Blank,
-    working: Blank,
+    opened: OpenedOutputs,
+    ledgers: (Blank, Blank),
     trial: Trial,
 ) -> Result<Tried>
-    requires admitting { (admitting.name ≡ L.name) × (admitting.parts ≡ L.parts) × (L.parts ≡ 1) }
-    requires working { (working.name ≡ M.name) × (working.parts ≡ M.parts) × (M.parts ≡ 1) }
+    requires opened { (opened.book ≡ L.book) × (0 < opened.pages) }
+    requires admitting { (ledgers.0.name ≡ L.name) × (ledgers.0.parts ≡ L.parts)
+        × (L.parts ≡ 1) }
+    requires working { (ledgers.1.name ≡ M.name) × (ledgers.1.parts ≡ M.parts) × (M.parts ≡ 1) }
     ensures { IfOk result (λ tried.
         tried.closing.accepted ≡ tried.closing.settled + tried.closing.left) }
 {
+    let (admitting, working) = ledgers;
     let (accepted, admit_seat) = open::<L>(admitting);
     let (settled, work_seat) = open::<M>(working);
     let witness = Witness::new(alloc)?;
-    let state = output(alloc, 3, 100_000)?;
-    let out = SharedOutput::new(Locked::new(alloc, state, accepted, settled));
+    let begun = paged::<L>(alloc, opened, output(3, 100_000))?;
+    let out = SharedOutput::new(Locked::new(alloc, begun, accepted, settled));
     let load = Load::new(1, trial.chunks);
     let (admit_seat, tickets) = admits(rt, alloc, &out, admit_seat, load);
     abandon_all(rt, &out, tickets);
@@ -201,7 +206,8 @@ fn tried_out<R: Wait>(rt: &R, alloc: Global, trial: Trial) -> Result<Tried>
     ensures { IfOk result (λ tried.
         tried.closing.accepted ≡ tried.closing.settled + tried.closing.left) }
 {
-    tried_by::<Brand, Brand, R>(rt, alloc, Blank::new(1), Blank::new(1), trial)
+    let ledgers = (Blank::new(1), Blank::new(1));
+    tried_by::<Brand, Brand, R>(rt, alloc, OpenedOutputs::new(1), ledgers, trial)
 }
 
 /// Tells a trial by what its worker told, and by what the output came to.

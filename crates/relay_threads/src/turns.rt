@@ -123,7 +123,7 @@ pub fn collected<A: Tally, S: Tally, R: Wait>(
     tickets: Vec<Ticket>,
 ) -> (usize, usize) {
     match out.collect(rt, alloc, tickets) {
-        Ok((receipts, back)) => {
+        Ok((receipts, back, _)) => {
             let left = abandon_all(rt, out, back);
             (receipts.len(), left)
         }

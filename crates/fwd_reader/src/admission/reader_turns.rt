@@ -27,6 +27,7 @@ ghost use Rattle.std.specs.Prelude.{
 };
 ghost use Rattle.fwd_reader.specs.Turning.{are_some, has_turn, stands};
 
+use fwd_history::Run;
 use fwd_output::{Plain, SharedOutput};
 use std::alloc::Global;
 use std::collections::VecDeque;
@@ -150,10 +151,10 @@ impl ReaderTurns {
     /// the output, which holds so many bytes at most, has room for it beside what else is reserved.
     /// A request that an empty output would not have room for needs none: it is refused there.
     /// Where it has none, the reader stands here from now on.
-    pub fn reserve<R: Wait>(
+    pub fn reserve<J: Run, R: Wait>(
         &self,
         rt: &R,
-        output: (&SharedOutput<Plain, Plain>, u64),
+        output: (&SharedOutput<Plain<J>, Plain<J>>, u64),
         reader: usize,
         bytes: u64,
     ) -> Reservation {

@@ -8,6 +8,7 @@ use super::full_report::FullNews;
 use super::owed_limit::OwedLimit;
 use super::reader_turns::Reservation;
 use crate::output::Output;
+use fwd_history::Run;
 use fwd_peers::SourcePeer;
 use std::alloc::Global;
 use std::collections::VecDeque;
@@ -58,7 +59,7 @@ pub(crate) struct SourceLine {
 
 impl SourceLine {
     /// Nobody waits at an output without entries, of the sources of the reader of this number.
-    pub fn new(alloc: Global, output: &Output, reader: usize) -> SourceLine
+    pub fn new<J: Run>(alloc: Global, output: &Output<J>, reader: usize) -> SourceLine
         ensures owed { result.owed.owed ≡ 0 }
         ensures limit { result.owed.limit ≡ owed_limit output.now.total }
     {
@@ -73,10 +74,10 @@ impl SourceLine {
 
     /// A source asks whether its first request that waits may enter this output of this number.
     /// Where it may not, it waits there from now on.
-    pub fn ask<R: Wait>(
+    pub fn ask<J: Run, R: Wait>(
         &mut self,
         rt: &R,
-        output: &Output,
+        output: &Output<J>,
         number: u16,
         source: &mut SourcePeer,
     ) -> Answer
@@ -108,7 +109,7 @@ impl SourceLine {
     /// What becomes of a source's first request that waits. It enters where its source may be owed
     /// more; and, where sources wait until an output has room, where it has its turn, and room.
     /// Where it has not, its source stands in line from now on.
-    fn judge<R: Wait>(&mut self, rt: &R, output: &Output, source: &SourcePeer) -> Verdict
+    fn judge<J: Run, R: Wait>(&mut self, rt: &R, output: &Output<J>, source: &SourcePeer) -> Verdict
         ensures in_turn { result ≡ Verdict.Enters → output.now.waits_when_full ≡ true
             → EntersInTurn self.old.ids.items source.now.id self.new.ids.items }
         ensures within { result ≡ Verdict.Enters
@@ -132,7 +133,13 @@ impl SourceLine {
 
     /// A source that has its turn and may not use it gives it up, since it may be owed what another
     /// output cannot settle.
-    fn give_way<R: Wait>(&mut self, rt: &R, output: &Output, id: u64, is_in_line: bool) -> Verdict
+    fn give_way<J: Run, R: Wait>(
+        &mut self,
+        rt: &R,
+        output: &Output<J>,
+        id: u64,
+        is_in_line: bool,
+    ) -> Verdict
         ensures waits { result ≢ Verdict.Enters }
         ensures owed { self.new.owed ≡ self.old.owed }
     {
@@ -177,7 +184,7 @@ impl SourceLine {
 
     /// Whether so many bytes of entries have room, or would not have it in an empty output either;
     /// and, where there are other readers, whether it is this one's turn.
-    fn has_room<R: Wait>(&mut self, rt: &R, output: &Output, bytes: u64) -> bool
+    fn has_room<J: Run, R: Wait>(&mut self, rt: &R, output: &Output<J>, bytes: u64) -> bool
         ensures line { self.new.ids ≡ self.old.ids }
         ensures owed { self.new.owed ≡ self.old.owed }
     {
@@ -196,7 +203,7 @@ impl SourceLine {
     }
 
     /// The same where there are other readers: so many bytes are reserved then.
-    fn reserve<R: Wait>(&mut self, rt: &R, output: &Output, bytes: u64) -> bool
+    fn reserve<J: Run, R: Wait>(&mut self, rt: &R, output: &Output<J>, bytes: u64) -> bool
         ensures line { self.new.ids ≡ self.old.ids }
         ensures owed { self.new.owed ≡ self.old.owed }
     {
@@ -214,7 +221,7 @@ impl SourceLine {
 
     /// The source of this id waits for room no more. It says whether it had its turn, and another
     /// one has it now.
-    pub fn leave<R: Wait>(&mut self, rt: &R, output: &Output, id: u64) -> bool
+    pub fn leave<J: Run, R: Wait>(&mut self, rt: &R, output: &Output<J>, id: u64) -> bool
         ensures owed { self.new.owed ≡ self.old.owed }
     {
         let had_turn = self.has_waiting() && self.is_turn_of(id);
@@ -227,7 +234,7 @@ impl SourceLine {
 
     /// Whether sources wait for room, and the first is to be looked at: the reader has its turn, or
     /// there may be room for it, since it was.
-    pub fn gets_turn<R: Wait>(&mut self, rt: &R, output: &Output) -> bool
+    pub fn gets_turn<J: Run, R: Wait>(&mut self, rt: &R, output: &Output<J>) -> bool
         ensures { self.new.owed ≡ self.old.owed }
     {
         if self.ids.is_empty() || !output.has_several_readers() {
@@ -239,7 +246,7 @@ impl SourceLine {
     }
 
     /// What there is to tell at a moment (milliseconds) of those that wait for room.
-    pub fn news(&self, output: &Output, now: u64) -> Option<FullNews> {
+    pub fn news<J: Run>(&self, output: &Output<J>, now: u64) -> Option<FullNews> {
         output.admission.report.news(self.ids.len(), now)
     }
 }

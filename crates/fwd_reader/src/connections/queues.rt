@@ -12,6 +12,7 @@ ghost use Rattle.fwd_reader.specs.Queues.{
   is_queued_at,
   is_ready_at,
   is_writable_at,
+  kept_at,
   made_queued,
   made_ready,
   made_writable,
@@ -106,6 +107,8 @@ impl Connections {
         ensures stand { connection_at self.new ≡ connection_at self.old }
         ensures sources { sources_in self.new ≡ sources_in self.old }
         ensures flags { self.new.opened ≡ with_changed self.old.opened key (made_queued now) }
+        ensures kept { (self.new.kept ≡ self.old.kept)
+            × (self.new.kept_limit ≡ self.old.kept_limit) }
         ensures queued { Queues (is_queued_at self.old key) key (deque_capacity self.old.waiting)
             self.old.waiting.items self.new.waiting.items }
     {
@@ -126,6 +129,8 @@ impl Connections {
     pub fn note_kept(&mut self, key: usize, now: u64)
         ensures stand { connection_at self.new ≡ connection_at self.old }
         ensures sources { sources_in self.new ≡ sources_in self.old }
+        ensures flags { self.new.opened ≡ kept_at self.old.kept self.old.kept_limit key
+            (with_changed self.old.opened key (made_queued now)) }
         ensures queued { Queues (is_queued_at self.old key) key (deque_capacity self.old.waiting)
             self.old.waiting.items self.new.waiting.items }
     {
@@ -138,6 +143,8 @@ impl Connections {
     fn keep(&mut self, key: usize)
         ensures stand { connection_at self.new ≡ connection_at self.old }
         ensures sources { sources_in self.new ≡ sources_in self.old }
+        ensures flags { self.new.opened
+            ≡ kept_at self.old.kept self.old.kept_limit key self.old.opened }
         ensures waiting { self.new.waiting ≡ self.old.waiting }
     {
         if self.kept >= self.kept_limit {

@@ -12,6 +12,7 @@ ghost use Rattle.std.specs.Prelude.{
   IfOk,
   OnErr,
 };
+ghost use Rattle.fwd_history.specs.Histories.{Comes};
 ghost use Rattle.fwd_reader.specs.Answering.{AnswersAll, AnswersEach, AnswersSome};
 ghost use Rattle.fwd_reader.specs.Collections.{CollectsInPart, CollectsWhole};
 ghost use Rattle.fwd_reader.specs.OpenConnections.{sources_in};
@@ -28,6 +29,7 @@ ghost use Rattle.fwd_reader.specs.Rounds.{
 
 use super::{RESERVE, Router};
 use crate::connections::Connections;
+use fwd_history::Run;
 use fwd_monitors::{JournalEvent, MemoryFor, Observer};
 use std::alloc::AllocError;
 use std::sync::Wait;
@@ -35,7 +37,7 @@ use std::sync::Wait;
 /// The most rounds of collecting at the end of a run.
 const ROUNDS: u32 = 1 << 20;
 
-impl<'a> Router<'a> {
+impl<'a, J: Run> Router<'a, J> {
     /// Hands in tickets that are due, each at its output, and tells the sources of their receipts:
     /// of each output some hundred. Where memory is refused for them what is kept in reserve is
     /// given back, and they are collected again. It says whether more are due, but for those that
@@ -47,8 +49,9 @@ impl<'a> Router<'a> {
         connections: &mut Connections,
         observer: &mut W,
     ) -> bool
-        ensures promised { TellsPromised self.old.routes
+        ensures promised { TellsPromised self.old.routes self.new.reached
             (sources_in connections.old) (sources_in connections.new) }
+        ensures onward { Comes self.old.reached self.new.reached }
         ensures each { CollectsEach self.old.stores (sources_in connections.old) result
             self.new.stores (sources_in connections.new) }
         ensures answers { AnswersEach self.old (sources_in connections.old)
@@ -80,7 +83,7 @@ impl<'a> Router<'a> {
 
     /// The same of the output of this number, if there is one. It is added up what the requests
     /// took beside their entries that are answered, in bytes.
-    #[tactic(auto, using(crate::proofs::Told::on))]
+    #[tactic(auto, using(crate::proofs::Told::on, crate::proofs::Told::further))]
     fn collect_at<R: Wait, W: Observer>(
         &mut self,
         rt: &R,
@@ -89,8 +92,9 @@ impl<'a> Router<'a> {
         observer: &mut W,
         answered: &mut u64,
     ) -> bool
-        ensures promised { TellsPromised self.old.routes
+        ensures promised { TellsPromised self.old.routes self.new.reached
             (sources_in connections.old) (sources_in connections.new) }
+        ensures onward { Comes self.old.reached self.new.reached }
         ensures once { number < length self.old.stores → ChangesAt
             (λ s t. CollectsOnce s (sources_in connections.old) result
             t (sources_in connections.new))
@@ -116,7 +120,7 @@ impl<'a> Router<'a> {
     }
 
     /// The same, with the memory that is to be had. The only error is out of memory.
-    #[tactic(auto, using(crate::proofs::Told::nothing))]
+    #[tactic(auto, using(crate::proofs::Told::nothing, crate::proofs::Told::no_further))]
     fn try_collect<R: Wait>(
         &mut self,
         rt: &R,
@@ -124,8 +128,9 @@ impl<'a> Router<'a> {
         connections: &mut Connections,
         answered: &mut u64,
     ) -> Result<bool, AllocError>
-        ensures promised { TellsPromised self.old.routes
+        ensures promised { TellsPromised self.old.routes self.new.reached
             (sources_in connections.old) (sources_in connections.new) }
+        ensures onward { Comes self.old.reached self.new.reached }
         ensures whole { number < length self.old.stores → IfOk result (λ more. ChangesAt
             (λ s t. CollectsWhole most_rounds s (sources_in connections.old)
             t (sources_in connections.new) × TellsDue more t)
@@ -144,7 +149,7 @@ impl<'a> Router<'a> {
         let Some(output_route) = self.all.get_mut(number as usize) else {
             return Ok(false);
         };
-        output_route.collect(rt, connections, answered)?;
+        output_route.collect(rt, connections, answered, &mut self.reached)?;
         Ok(output_route.open_tickets.is_due())
     }
 
@@ -164,8 +169,9 @@ impl<'a> Router<'a> {
         connections: &mut Connections,
         observer: &mut W,
     )
-        ensures promised { TellsPromised self.old.routes
+        ensures promised { TellsPromised self.old.routes self.new.reached
             (sources_in connections.old) (sources_in connections.new) }
+        ensures onward { Comes self.old.reached self.new.reached }
         ensures all { CollectsAll ROUNDS self.old.stores (sources_in connections.old)
             self.new.stores (sources_in connections.new) }
         ensures answers { AnswersAll self.old (sources_in connections.old)

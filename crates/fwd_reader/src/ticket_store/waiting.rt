@@ -18,6 +18,7 @@ ghost use Rattle.std.specs.Prelude.{
   IfErr,
   IfSome,
   IfNone,
+  IsOk,
   OnOk,
   OnErr,
 };
@@ -97,11 +98,12 @@ impl WaitingTickets {
     }
 
     /// Takes who waits for a chunk behind these that are due. The only error is out of memory, and
-    /// then nothing has changed.
+    /// then nothing has changed. Where nobody waits for it, no memory is needed.
     pub fn move_to(&mut self, chunk: u64, due: &mut TicketList) -> Result<(), AllocError>
         ensures due { OnOk result (due.new ≡ due.old ++ waiting_in self.old chunk) }
         ensures gone { OnOk result ((k : ℕ) →
             waiting_in self.new k ≡ waits_with (waiting_in self.old) chunk [] k) }
+        ensures none { waiting_in self.old chunk ≡ [] → IsOk result }
         ensures same { OnErr result ((due.new ≡ due.old)
             × ((k : ℕ) → waiting_in self.new k ≡ waiting_in self.old k)) }
     {
@@ -270,6 +272,7 @@ fn push_at(others: &mut BTreeMap<u64, TicketList>, chunk: u64, ticket: Ticket) -
 fn move_newest(newest: &mut Option<ChunkTickets>, due: &mut TicketList) -> Result<(), AllocError>
     ensures moved { OnOk result (IfSome newest.old (λ one. due.new ≡ due.old ++ one.tickets)
         × (newest.new ≡ None)) }
+    ensures none { IfSome newest.old (λ one. one.tickets ≡ [] → IsOk result) }
     ensures same { OnErr result ((due.new ≡ due.old) × (newest.new ≡ newest.old)) }
 {
     match newest {
@@ -292,6 +295,7 @@ fn move_list(
     ensures due { OnOk result (due.new ≡ due.old ++ waiting_in others.old.entries chunk) }
     ensures gone { OnOk result ((k : ℕ) → list_at others.new.entries k
         ≡ list_with (list_at others.old.entries) chunk None k) }
+    ensures none { waiting_in others.old.entries chunk ≡ [] → IsOk result }
     ensures same { OnErr result ((due.new ≡ due.old) × ((k : ℕ) →
         list_at others.new.entries k ≡ list_at others.old.entries k)) }
 {

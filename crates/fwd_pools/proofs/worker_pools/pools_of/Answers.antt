@@ -14,4 +14,6 @@ loop-config-init g c =
       each = hops ∙ c.requires.each ∙ sym configs;
       count = omega (arith, configs, none);
       made = λ i. map shown (c.requires.none i) ++ all_made_of (map parts_known (c.into_iter-configs.ensures.rest i)) (c.into_iter-hops.ensures.rest i);
+      number = omega (arith, none, c.requires.pages.0);
+      left = omega (arith, none);
     }

@@ -7,7 +7,8 @@ use Rattle.fwd_pools.proofs.worker_pools.pools_of.Given as goal
 abbrev pub decreases-loop-config : goal.decreases-loop-config
 decreases-loop-config g l = into_iter_len l.configs
 
--- what is left has a next hop for each, and makes up for the outputs that are not there yet
+-- what is left has a next hop for each, and makes up for the outputs that are not there yet; the
+-- next page is that of the next output
 abbrev pub invariant-loop-config : goal.invariant-loop-config
 invariant-loop-config g l = record {
   each : into_iter_len l.hops ≡ into_iter_len l.configs;
@@ -15,4 +16,6 @@ invariant-loop-config g l = record {
   made : map shown l.pools.outputs.items
       ++ all_made_of (map parts_known (into_iter_items l.configs)) (into_iter_items l.hops)
       ≡ all_made_of (map parts_known l.fn.configs.items) l.fn.hops.items;
+  number : l.pools.pages.0 ≡ length l.pools.outputs.items;
+  left : l.pools.pages.1 + length l.pools.outputs.items ≡ l.fn.pools.pages.1;
 }

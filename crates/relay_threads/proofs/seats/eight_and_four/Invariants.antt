@@ -5,3 +5,7 @@ ghosts-sums_by-L-Ledger g a = record { name = a.admitting.name; parts = a.admitt
 
 abbrev pub ghosts-sums_by-M-Ledger : goal.ghosts-sums_by-M-Ledger
 ghosts-sums_by-M-Ledger g a = record { name = a.working.name; parts = a.working.parts }
+
+-- the history that was just opened
+abbrev pub ghosts-sums_by-L-Run : goal.ghosts-sums_by-L-Run
+ghosts-sums_by-L-Run g a = record { book = a.opened.book }

@@ -15,7 +15,7 @@ relay_of-requires-clause-each g c =
 pub relay_of-requires-clause-few : goal.relay_of-requires-clause-few
 relay_of-requires-clause-few g c =
     let same = known_count c.args.settings _ c.in_ok-parts.ensures.outputs in
-    omega (arith, same, outputs_few c.args.settings c.requires)
+    omega (arith, same, outputs_few c.args.settings c.requires.range)
 
 pub returns : goal.returns
 returns g c =

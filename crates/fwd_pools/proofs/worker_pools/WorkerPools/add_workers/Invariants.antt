@@ -6,5 +6,6 @@ abbrev pub invariant-loop-number : goal.invariant-loop-number
 invariant-loop-number g l = record {
   outputs : l.self.outputs ≡ l.fn.self.outputs;
   intervals : l.self.intervals ≡ l.fn.self.intervals;
+  pages : l.self.pages ≡ l.fn.self.pages;
   count : length l.wakers.items ≡ l.number;
 }

@@ -1,5 +1,7 @@
 use Rattle.std.proofs.Common.{refl, sym}
-use Rattle.fwd_reader.proofs.Standing.{all_stay, flags_change}
+use Rattle.fwd_reader.proofs.Queueing.{keeps_none, keeps_one}
+use Rattle.fwd_reader.proofs.Standing.{all_stay, changed, flags_change, none_changed}
+use Rattle.fwd_reader.specs.Queues.{made_kept}
 use Rattle.fwd_reader.proofs.connections.Connections.keep.Goals as goal
 
 pub returns-clause-stand : goal.returns-clause-stand

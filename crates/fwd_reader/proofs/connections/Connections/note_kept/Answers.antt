@@ -1,6 +1,6 @@
 use Rattle.std.proofs.Common.{sym, subst, ◌∙◌}
 use Rattle.std.specs.VecDeque.{deque_capacity}
-use Rattle.fwd_reader.specs.Queues.{Queues, is_queued_at}
+use Rattle.fwd_reader.specs.Queues.{Queues, is_queued_at, kept_at}
 use Rattle.fwd_reader.proofs.connections.Connections.note_kept.Goals as goal
 
 pub returns-clause-stand : goal.returns-clause-stand
@@ -8,6 +8,12 @@ returns-clause-stand c = c.keep.ensures.stand ∙ c.note_waiting.ensures.stand
 
 pub returns-clause-sources : goal.returns-clause-sources
 returns-clause-sources c = c.keep.ensures.sources ∙ c.note_waiting.ensures.sources
+
+pub returns-clause-flags : goal.returns-clause-flags
+returns-clause-flags c =
+    c.keep.ensures.flags
+    ∙ (λ i. kept_at (c.note_waiting.ensures.kept.0 i) (c.note_waiting.ensures.kept.1 i) c.args.key
+    (c.note_waiting.ensures.flags i))
 
 pub returns-clause-queued : goal.returns-clause-queued
 returns-clause-queued c =

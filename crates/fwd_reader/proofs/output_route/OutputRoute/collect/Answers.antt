@@ -5,31 +5,34 @@ use Rattle.fwd_reader.specs.OpenTickets.{AreQuiet}
 use Rattle.fwd_reader.specs.Owing.{upkeep_of}
 use Rattle.fwd_reader.specs.Tellings.{AreTold}
 use Rattle.fwd_reader.proofs.Answering as answering
-use Rattle.fwd_reader.proofs.Told.{CollectsIn, a_round, collected, no_round, nothing, on, on_err, one_told, whole}
+use Rattle.fwd_reader.proofs.Told.{CollectsIn, a_round, collected, further, no_further, no_round, nothing, on, on_err, one_told, whole}
 use Rattle.fwd_reader.proofs.Routed.{open_tickets_handed, open_tickets_refused}
 use Rattle.fwd_reader.proofs.output_route.OutputRoute.collect.Goals as goal
 
 pub loop-init : goal.loop-init
 loop-init g c = (
-  λ routes held. (held, nothing routes (sources_in c.args.connections.now)),
+  λ routes held. (held, nothing routes c.args.reached.now (sources_in c.args.connections.now)),
   λ more t told some.
       subst
       (λ n. CollectsIn n c.args.self.now.open_tickets (sources_in c.args.connections.now) t told)
       (omega arith) some,
   answering.none_more c.args.self.now.open_tickets (sources_in c.args.connections.now)
       c.args.answered.now,
+  no_further c.args.reached.now,
 )
 
 pub loop-preserved : goal.loop-preserved
 loop-preserved g c = (
   λ routes held.
       let before = c.loop.invariant.0 routes held in
-      let given = c.in_ok-receipts.ensures.given in (
-        (open_tickets_handed routes c.loop.self.open_tickets c.hand_in.new.self c.in_ok-receipts.receipts.items given before.0).1,
-        on routes (sources_in c.args.connections.now) (sources_in c.loop.connections)
-            (sources_in c.tell_all.new.self) before.1
-            (one_told routes (sources_in c.loop.connections) (sources_in c.tell_all.new.self)
-            c.in_ok-receipts.receipts.items c.loop.self.open_tickets c.hand_in.new.self given before.0 told),
+      let given = c.in_ok-handed.ensures.given in (
+        open_tickets_handed routes c.loop.self.open_tickets c.hand_in.new.self c.in_ok-handed.handed.0.items given before.0,
+        on routes c.loop.reached c.with.result (sources_in c.args.connections.now)
+            (sources_in c.loop.connections) (sources_in c.tell_all.new.self) before.1
+            c.with.ensures.0
+            (one_told routes c.with.result c.in_ok-handed.handed.1 (sources_in c.loop.connections)
+            (sources_in c.tell_all.new.self) c.in_ok-handed.handed.0.items c.loop.self.open_tickets
+            c.hand_in.new.self given c.in_ok-handed.ensures.reached c.with.ensures.1 before.0 told),
       ),
   λ more t then_told others.
       subst
@@ -38,18 +41,19 @@ loop-preserved g c = (
       (c.loop.invariant.1 (suc more) t then_told
       (a_round c.loop.self.open_tickets c.hand_in.new.self t
       (sources_in c.loop.connections) (sources_in c.tell_all.new.self) then_told
-      c.in_ok-receipts.receipts.items more c.in_ok-receipts.ensures.given due told others)),
+      c.in_ok-handed.handed.0.items more c.in_ok-handed.ensures.given due told others)),
   answering.then_more c.args.self.now.open_tickets c.loop.self.open_tickets c.hand_in.new.self
       (sources_in c.args.connections.now) (sources_in c.loop.connections)
       (sources_in c.tell_all.new.self) c.args.answered.now c.loop.answered
       c.saturating_add.result c.loop.invariant.2
       (answering.one_round c.loop.self.open_tickets c.hand_in.new.self
       (sources_in c.loop.connections) (sources_in c.tell_all.new.self)
-      c.in_ok-receipts.receipts.items c.loop.answered c.saturating_add.result
-      c.in_ok-receipts.ensures.given told sum),
+      c.in_ok-handed.handed.0.items c.loop.answered c.saturating_add.result
+      c.in_ok-handed.ensures.given told sum),
+  further c.args.reached.now c.loop.reached c.with.result c.loop.invariant.3 c.with.ensures.0,
 )
   where
-    told : AreTold (sources_in c.loop.connections) c.in_ok-receipts.receipts.items
+    told : AreTold (sources_in c.loop.connections) c.in_ok-handed.handed.0.items
         (sources_in c.tell_all.new.self)
     told = subst (λ rs. AreTold (sources_in c.loop.connections) rs (sources_in c.tell_all.new.self))
         c.deref.ensures.value c.tell_all.ensures
@@ -58,7 +62,7 @@ loop-preserved g c = (
     due = c.is_due.ensures.due c.if-not-is_due.false
 
     sum : c.saturating_add.result
-        ≡ bounded (c.loop.answered + upkeep_of c.in_ok-receipts.receipts.items)
+        ≡ bounded (c.loop.answered + upkeep_of c.in_ok-handed.handed.0.items)
     sum = omega (
       arith,
       c.saturating_add.ensures,
@@ -66,9 +70,9 @@ loop-preserved g c = (
       ap upkeep_of c.deref-in-loop.ensures.value,
     )
 
-pub returns-in_err-receipts-clause-routed : goal.returns-in_err-receipts-clause-routed
-returns-in_err-receipts-clause-routed g c = λ routes held.
-    open_tickets_refused routes c.loop.self.open_tickets c.hand_in.new.self c.in_err-receipts.ensures.kept
+pub returns-in_err-handed-clause-routed : goal.returns-in_err-handed-clause-routed
+returns-in_err-handed-clause-routed g c = λ routes held.
+    open_tickets_refused routes c.loop.self.open_tickets c.hand_in.new.self c.in_err-handed.ensures.kept
     (c.loop.invariant.0 routes held).0
 
 pub returns-after-loop-clause-routed : goal.returns-after-loop-clause-routed
@@ -77,8 +81,8 @@ returns-after-loop-clause-routed g c = λ routes held. (c.loop.invariant.0 route
 pub returns-then-not-is_due-clause-routed : goal.returns-then-not-is_due-clause-routed
 returns-then-not-is_due-clause-routed g c = λ routes held. (c.loop.invariant.0 routes held).0
 
-pub returns-in_err-receipts-clause-part : goal.returns-in_err-receipts-clause-part
-returns-in_err-receipts-clause-part g c =
+pub returns-in_err-handed-clause-part : goal.returns-in_err-handed-clause-part
+returns-in_err-handed-clause-part g c =
     on_err c.from_residual.result (
       c.loop.self.open_tickets,
       (
@@ -86,7 +90,7 @@ returns-in_err-receipts-clause-part g c =
             (sources_in c.args.connections.now) (sources_in c.loop.connections)
             (c.loop.invariant.1 0 c.loop.self.open_tickets (sources_in c.loop.connections)
             (no_round c.loop.self.open_tickets (sources_in c.loop.connections))),
-        c.in_err-receipts.ensures.kept,
+        c.in_err-handed.ensures.kept,
       ),
     )
 
@@ -120,11 +124,11 @@ returns-then-not-is_due-clause-whole g c =
     (no_round c.loop.self.open_tickets (sources_in c.loop.connections)))
     (omega arith) (inl (c.is_due.ensures.quiet c.if-not-is_due.true))
 
-pub returns-in_err-receipts-clause-answers : goal.returns-in_err-receipts-clause-answers
-returns-in_err-receipts-clause-answers g c =
+pub returns-in_err-handed-clause-answers : goal.returns-in_err-handed-clause-answers
+returns-in_err-handed-clause-answers g c =
     answering.then_more c.args.self.now.open_tickets c.loop.self.open_tickets c.hand_in.new.self
     (sources_in c.args.connections.now) (sources_in c.loop.connections)
     (sources_in c.loop.connections) c.args.answered.now c.loop.answered c.loop.answered
     c.loop.invariant.2
     (answering.no_round c.loop.self.open_tickets c.hand_in.new.self
-    (sources_in c.loop.connections) c.loop.answered c.in_err-receipts.ensures.kept)
+    (sources_in c.loop.connections) c.loop.answered c.in_err-handed.ensures.kept)

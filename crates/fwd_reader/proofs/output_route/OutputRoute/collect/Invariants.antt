@@ -1,4 +1,5 @@
 use Rattle.std.proofs.Common.{ℕ, ◌+◌, List}
+use Rattle.fwd_history.specs.Histories.{Comes}
 use Rattle.fwd_reader.specs.declared.open_tickets.OpenTickets.{OpenTickets}
 use Rattle.fwd_reader.specs.Answering.{AnswersSome}
 use Rattle.fwd_reader.specs.OpenConnections.{sources_in}
@@ -11,9 +12,10 @@ abbrev pub invariant-loop : goal.invariant-loop
 invariant-loop g l =
     ((routes : List (List (List ℕ))) → HoldsRouted routes l.fn.self.open_tickets
     → HoldsRouted routes l.self.open_tickets
-    × TellsPromised routes (sources_in l.fn.connections) (sources_in l.connections))
+    × TellsPromised routes l.reached (sources_in l.fn.connections) (sources_in l.connections))
     × ((more : ℕ) (t : OpenTickets) (told : Sources)
     → CollectsIn more l.self.open_tickets (sources_in l.connections) t told
     → CollectsIn (l.counter + more) l.fn.self.open_tickets (sources_in l.fn.connections) t told)
     × AnswersSome l.fn.self.open_tickets (sources_in l.fn.connections) l.fn.answered
     l.self.open_tickets (sources_in l.connections) l.answered
+    × Comes l.fn.reached l.reached

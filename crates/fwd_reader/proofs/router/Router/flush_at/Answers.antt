@@ -21,5 +21,6 @@ returns g c =
       routes = c.self.inside.routes.now;
       stores = same i;
       owed = owed_at_each c.self.inside.admission;
+      reached = c.self.inside.reached;
     })
     ∙ c.self.view_is

@@ -3,10 +3,11 @@ use Rattle.fwd_reader.specs.Routers.{stores_of}
 use Rattle.fwd_reader.proofs.router.Router.has_moved.Goals as goal
 
 pub returns : goal.returns
-returns c =
+returns g c =
     (λ i. record {
       routes = c.self.inside.routes.now;
       stores = stores_of c.self.inside.all.items;
       owed = c.take_moved.ensures i;
+      reached = c.self.inside.reached;
     })
     ∙ c.self.view_is

@@ -5,7 +5,7 @@ use Rattle.fwd_reader.proofs.router.Router.hear.Given as goal
 
 -- what the notices that are left make of the tickets is what all make of them
 abbrev pub invariant-loop-notice : goal.invariant-loop-notice
-invariant-loop-notice l =
+invariant-loop-notice g l =
     (l.self.routes ≡ l.fn.self.routes)
     × ((t : List OpenTickets) → HearsAll (drop l.notice-index l.fn.notices.all.items) l.self.stores t
     → Hears l.fn.notices l.fn.self.stores t)

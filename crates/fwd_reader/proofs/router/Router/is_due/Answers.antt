@@ -6,7 +6,7 @@ use Rattle.fwd_reader.proofs.Collecting.{quiet_all, quiet_at, quiet_more}
 use Rattle.fwd_reader.proofs.router.Router.is_due.Goals as goal
 
 pub returns-then-is_due-clause-due : goal.returns-then-is_due-clause-due
-returns-then-is_due-clause-due c = λ yes all.
+returns-then-is_due-clause-due g c = λ yes all.
     let there : c.output_route-item.result
     ≡ get_or c.self.inside.all.items c.loop-output_route.output_route-index c.output_route-item.result =
     cc in
@@ -16,7 +16,7 @@ returns-then-is_due-clause-due c = λ yes all.
     there (subst (λ (o : RouterShown). All AreQuiet o.stores) (sym c.self.view_is) all))
 
 pub loop-output_route-preserved : goal.loop-output_route-preserved
-loop-output_route-preserved c =
+loop-output_route-preserved g c =
     let there : c.output_route-item.result
     ≡ get_or c.self.inside.all.items c.loop-output_route.output_route-index c.output_route-item.result =
     cc in
@@ -31,7 +31,7 @@ loop-output_route-preserved c =
     (sym c.self.view_is) c.loop-output_route.invariant))
 
 pub returns-clause-quiet : goal.returns-clause-quiet
-returns-clause-quiet c = λ no.
+returns-clause-quiet g c = λ no.
     subst (λ (o : RouterShown). All AreQuiet o.stores) c.self.view_is
     (quiet_all c.self.inside.all.items c.loop-output_route.output_route-index
     (omega (arith, ap length c.deref-output_route-items.ensures.value))

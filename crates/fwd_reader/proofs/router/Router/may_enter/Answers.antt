@@ -8,5 +8,6 @@ returns-clause-this g c =
       routes = c.self.inside.routes.now;
       stores = stores_of c.self.inside.all.items;
       owed = c.ask.ensures.owed i;
+      reached = c.self.inside.reached;
     })
     ∙ c.self.view_is

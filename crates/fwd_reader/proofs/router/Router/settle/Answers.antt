@@ -8,7 +8,7 @@ use Rattle.fwd_reader.proofs.Settling.{settles}
 use Rattle.fwd_reader.proofs.router.Router.settle.Goals as goal
 
 pub invariant_of-self-2 : goal.invariant_of-self-2
-invariant_of-self-2 c =
+invariant_of-self-2 g c =
     let held = at_place c.self.inside.routes.now c.self.inside.all.items c.args.place c.in-Some.output_route.now
     (omega (arith, c.in-Some.ensures.variant.0 refl)) c.in-Some.ensures.value c.self.invariant in
     put_place c.self.inside.routes.now c.self.inside.all.items c.args.place
@@ -18,7 +18,7 @@ invariant_of-self-2 c =
     c.self.invariant
 
 pub returns-clause-settled : goal.returns-clause-settled
-returns-clause-settled c =
+returns-clause-settled g c =
     subst
     (λ (o : RouterShown). SettlesAt o.stores c.args.place c.args.chunk
     (stores_of (slice_set c.self.inside.all.items c.args.place

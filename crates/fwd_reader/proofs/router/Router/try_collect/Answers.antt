@@ -24,8 +24,8 @@ returns-in_err-collect-clause-promised g c =
     let held = at_place c.self.inside.routes.now c.self.inside.all.items c.args.number c.in-Some.output_route.now
     (omega (arith, c.in-Some.ensures.variant.0 refl)) c.in-Some.ensures.value c.self.invariant in
     subst
-    (λ (o : RouterShown). TellsPromised o.routes (sources_in c.args.connections.now)
-    (sources_in c.collect.new.connections))
+    (λ (o : RouterShown). TellsPromised o.routes c.collect.new.reached
+    (sources_in c.args.connections.now) (sources_in c.collect.new.connections))
     c.self.view_is (c.collect.ensures.promised c.self.inside.routes.now held)
 
 pub invariant_of-self-2 : goal.invariant_of-self-2
@@ -40,8 +40,8 @@ returns-clause-promised g c =
     let held = at_place c.self.inside.routes.now c.self.inside.all.items c.args.number c.in-Some.output_route.now
     (omega (arith, c.in-Some.ensures.variant.0 refl)) c.in-Some.ensures.value c.self.invariant in
     subst
-    (λ (o : RouterShown). TellsPromised o.routes (sources_in c.args.connections.now)
-    (sources_in c.collect.new.connections))
+    (λ (o : RouterShown). TellsPromised o.routes c.collect.new.reached
+    (sources_in c.args.connections.now) (sources_in c.collect.new.connections))
     c.self.view_is (c.collect.ensures.promised c.self.inside.routes.now held)
 
 pub returns-in_err-collect-clause-part : goal.returns-in_err-collect-clause-part
