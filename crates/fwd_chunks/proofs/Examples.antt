@@ -6,9 +6,10 @@ use Rattle.fwd_modes.specs.Requests.{Request}
 use Rattle.fwd_chunks.specs.declared.flush.FlushKind.TheVariants.{Due, All}
 use Rattle.fwd_chunks.specs.declared.fault.AdmitError.TheVariants.{Full, NumbersSpent}
 use Rattle.fwd_chunks.specs.declared.chunk_state.ChunkState.TheVariants.{Closed}
+use Rattle.fwd_chunks.specs.declared.wanted.Wanted.TheVariants.{Any, Fresh}
 use Rattle.fwd_base.specs.Waits.{wait_after}
 use Rattle.fwd_chunks.specs.Cells.{contents}
-use Rattle.fwd_chunks.specs.History.{BufferSetting, BufferHistory, opening, adds, enters, refusal, spans_of, closing, flushes, given, looks, takes, settles, counts}
+use Rattle.fwd_chunks.specs.History.{BufferSetting, BufferHistory, opening, adds, enters, refusal, spans_of, closing, flushes, given, given_for, looks, takes, settles, counts}
 use Rattle.fwd_chunks.specs.Events.{Enter, Flush, Take, Free, history_after}
 use Rattle.fwd_chunks.specs.Live.{live_buffer}
 
@@ -68,12 +69,12 @@ split_closing : closing split 0 All ≡ 2 ∷ []
 unfolding adds
 split_closing = refl
 
-split_given : given (looks (takes (flushes split 0 All) 0 0) 0) ≡ Some 2
+split_given : given (looks (takes (flushes split 0 All) 0 Any 0) 0) ≡ Some 2
 unfolding adds wait_after
 split_given = refl
 
 -- the second chunk is settled first
-split_settled : counts (settles (takes (takes (flushes split 0 All) 0 0) 1 0) 2)
+split_settled : counts (settles (takes (takes (flushes split 0 All) 0 Any 0) 1 Any 0) 2)
     ≡ record { accepted = 3; settled = 1; held = 2; bytes = 6; chunks = 1 }
 unfolding adds wait_after
 split_settled = refl
@@ -142,7 +143,7 @@ due = refl
 -- ---- a loss: the chunk waits half a second, and then a whole one
 
 abbrev lost : BufferHistory
-lost = history_after (opening (setting 1000 100000 1)) (Enter (from 1) (of 97 (three ∷ [])) 0 ∷ Flush 0 All ∷ Take 0 0 ∷ Free 1 (Some 2000) ∷ [])
+lost = history_after (opening (setting 1000 100000 1)) (Enter (from 1) (of 97 (three ∷ [])) 0 ∷ Flush 0 All ∷ Take 0 Any 0 ∷ Free 1 (Some 2000) ∷ [])
 
 waits : given (looks lost 2499) ≡ None
 unfolding adds wait_after
@@ -152,16 +153,49 @@ waited : given (looks lost 2500) ≡ Some 1
 unfolding adds wait_after
 waited = refl
 
-waits_longer : given (looks (history_after lost (Take 0 2500 ∷ Free 1 (Some 2500) ∷ [])) 3499)
+waits_longer : given (looks (history_after lost (Take 0 Any 2500 ∷ Free 1 (Some 2500) ∷ [])) 3499)
     ≡ None
 unfolding adds wait_after
 waits_longer = refl
 
 -- one that is given back without a loss is free at once
 unharmed : given (history_after (opening (setting 1000 100000 1)) (Enter (from 1) (of 97 (three
-    ∷ [])) 0 ∷ Flush 0 All ∷ Take 0 0 ∷ Free 1 None ∷ [])) ≡ Some 1
+    ∷ [])) 0 ∷ Flush 0 All ∷ Take 0 Any 0 ∷ Free 1 None ∷ [])) ≡ Some 1
 unfolding adds wait_after
 unharmed = refl
+
+-- ---- one that was lost is free again, and a later one was never lost
+
+abbrev two : BufferHistory
+two = history_after lost (Enter (from 1) (of 98 (three ∷ [])) 2400 ∷ Flush 2400 All ∷ [])
+
+any_is_first : given_for (looks two 2500) Any ≡ Some 1
+unfolding adds wait_after
+any_is_first = refl
+
+fresh_is_second : given_for (looks two 2500) Fresh ≡ Some 2
+unfolding adds wait_after
+fresh_is_second = refl
+
+-- before the wait of the lost one is over, either gives the other
+any_is_second : given_for (looks two 2499) Any ≡ Some 2
+unfolding adds wait_after
+any_is_second = refl
+
+-- where only lost ones are free, none is fresh
+lost_is_any : given_for (looks lost 2500) Any ≡ Some 1
+unfolding adds wait_after
+lost_is_any = refl
+
+lost_is_not_fresh : given_for (looks lost 2500) Fresh ≡ None
+unfolding adds wait_after
+lost_is_not_fresh = refl
+
+-- one that is given back without a loss is fresh
+unharmed_is_fresh : given_for (history_after (opening (setting 1000 100000 1)) (Enter (from 1) (of 97 (three
+    ∷ [])) 0 ∷ Flush 0 All ∷ Take 0 Fresh 0 ∷ Free 1 None ∷ [])) Fresh ≡ Some 1
+unfolding adds wait_after
+unharmed_is_fresh = refl
 
 -- ---- what is kept
 
@@ -178,6 +212,6 @@ kept : (live_buffer lost).chunks
 unfolding adds wait_after live_buffer
 kept = refl
 
-gone : (live_buffer (settles (takes (flushes shared 0 All) 0 0) 1)).chunks ≡ []
+gone : (live_buffer (settles (takes (flushes shared 0 All) 0 Any 0) 1)).chunks ≡ []
 unfolding adds wait_after live_buffer
 gone = refl

@@ -14,13 +14,14 @@ use Rattle.fwd_chunks.specs.declared.flush.FlushKind.TheVariants.{Due, All}
 use Rattle.fwd_chunks.specs.declared.fault.AdmitError.TheVariants.{Full, NumbersSpent}
 use Rattle.fwd_chunks.specs.declared.chunk_state.ChunkState.TheVariants.{Closed, Taken}
 use Rattle.fwd_chunks.specs.Cells.{Cell, Carry, size_of, entries_of, cells_at, contents, first_tag, first_moment, has_number, numbers_of, has_entry, greatest, is_carried, without, losses_of}
-use Rattle.fwd_chunks.specs.History.{BufferHistory, next_number, has_room, joins, adds, adds_all, looks, enters, unsettled, is_full, is_spent, refusal, before_runs, runs_after, spans_of, is_old, closes, closing, flushes, is_over, is_free, given, carry_more, takes, carried_chunk_of, settles, frees, counts}
-use Rattle.fwd_chunks.specs.Live.{stage_by, stage_of, live_chunk, live_buffer, is_open, is_closed, is_taken, staged, changed, is_at, held_in, bytes_in, is_open_of, may_take, first_chunk, live_adds_to, live_adds, live_adds_all, live_looks, live_enters, live_is_full, live_is_spent, live_refusal, live_place, live_runs, live_spans, live_closes, live_closing, live_flushes, live_is_free, live_given, live_carries_more, live_takes, live_carried_chunk, live_carried, live_settles, live_frees, live_counts}
+use Rattle.fwd_chunks.specs.declared.wanted.Wanted.{Wanted}
+use Rattle.fwd_chunks.specs.History.{BufferHistory, next_number, has_room, joins, adds, adds_all, looks, enters, unsettled, is_full, is_spent, refusal, before_runs, runs_after, spans_of, is_old, closes, closing, flushes, is_over, is_free, given, asked_for, given_for, carry_more, takes, carried_chunk_of, settles, frees, counts}
+use Rattle.fwd_chunks.specs.Live.{stage_by, stage_of, live_chunk, live_buffer, is_open, is_closed, is_taken, staged, changed, is_at, held_in, bytes_in, is_open_of, may_take, first_chunk, live_adds_to, live_adds, live_adds_all, live_looks, live_enters, live_is_full, live_is_spent, live_refusal, live_place, live_runs, live_spans, live_closes, live_closing, live_flushes, live_is_free, live_given, live_asked_for, live_given_for, live_carries_more, live_takes, live_carried_chunk, live_carried, live_settles, live_frees, live_counts}
 use Rattle.fwd_base.specs.Tallies.{tally_of, live_is_over, tally_more}
 use Rattle.fwd_base.proofs.Doublings.{wait_settles}
 use Rattle.fwd_chunks.proofs.Numbers.{true_false, not_from, eq_same, filter-within, filter-map, filter-same, find-map, find-same, find_only, find_no, map-map, map-same, has_number-push, has_number-filter, AreDistinct, least_first, sum_over, sum_over-same}
 use Rattle.fwd_chunks.proofs.CellLemmas.{filter-push_in, filter-push_out, any-false, any-find, last_number-entry, has_cell, numbers-has, numbers-distinct, numbers-push, numbers-filter, cells_at-here, cells_at-elsewhere, cells_at-none, cells_at-some, cells_at-unsettled, first_tag-push, first_moment-push, entries_of-push, first_tag-entry, greatest-push, greatest-same, greatest-next, weigh, weigh_numbers, weigh-length, weigh-size, carry_at, carry_at-without_same, carry_at-without_other, carry_at-push_other, carry_at-push_same, losses-here, losses-elsewhere}
-use Rattle.fwd_chunks.proofs.Sane.{IsSane, Joins, Begins, joins_or_begins, cell_at, adds_at, adds-at, IsFor, joins-for, next-for, next-fresh, adds-sane, looks-sane, Loose, free_parts, given-free}
+use Rattle.fwd_chunks.proofs.Sane.{IsSane, Joins, Begins, joins_or_begins, cell_at, adds_at, adds-at, IsFor, joins-for, next-for, next-fresh, adds-sane, looks-sane, asked-sane, Loose, free_parts, given_for-loose}
 use Rattle.std.proofs.lemmas.Bool.{eqb-true}
 
 -- ---- the numbers of the live part
@@ -567,6 +568,17 @@ given-live h fits own =
         (find (λ k. live_is_free (live_buffer h) (live_chunk h k)) (live_numbers h))
     by_chunks = find-map (live_is_free (live_buffer h)) (live_chunk h) (live_numbers h)
 
+asked-live : (h : BufferHistory) (wanted : Wanted)
+    → live_buffer (asked_for h wanted) ≡ live_asked_for (live_buffer h) wanted
+unfolding live_buffer
+asked-live h wanted = refl
+
+pub given_for-live : (h : BufferHistory) (wanted : Wanted) → h.setting.limits.retry_max < 2 ^ 64
+    → IsSane h
+    → live_given_for (live_buffer h) wanted ≡ option_map (live_chunk h) (given_for h wanted)
+given_for-live h wanted fits own =
+    ap live_given (sym (asked-live h wanted)) ∙ given-live (asked_for h wanted) fits (asked-sane h wanted own)
+
 carries_more-live : (h : BufferHistory) (worker : ℕ) (o : Option ℕ)
     → ((k : ℕ) → o ≡ Some k → Loose h k)
     → live_buffer (record h { carried = carry_more worker o h.carried }) ≡ live_carries_more worker
@@ -603,14 +615,15 @@ carries_more-live h worker (Some n) free =
         let differ : n ≢ k = λ f. true_false (k == n) (ap (λ x. eqb k x) f ∙ eq_same k) e in
         ap (λ c. staged (stage_by (has_number k h.opened) c) (live_chunk h k)) (sym (carry_at-push_other worker n k h.carried differ))
 
-pub takes-live : (h : BufferHistory) (worker now : ℕ) → h.setting.limits.retry_max < 2 ^ 64
-    → IsSane h → live_buffer (takes h worker now) ≡ live_takes (live_buffer h) worker now
-takes-live h worker now fits own =
+pub takes-live : (h : BufferHistory) (worker : ℕ) (wanted : Wanted) (now : ℕ)
+    → h.setting.limits.retry_max < 2 ^ 64 → IsSane h
+    → live_buffer (takes h worker wanted now) ≡ live_takes (live_buffer h) worker wanted now
+takes-live h worker wanted now fits own =
     let l = looks h now in
     let is = looks-sane h now own in
-    carries_more-live l worker (given l) (λ k e. free_parts l k (given-free l k is e))
-    ∙ ap (λ o. live_carries_more worker o (live_buffer l)) (sym (given-live l fits is))
-    ∙ ap (λ b. live_carries_more worker (live_given b) b) (looks-live h now)
+    carries_more-live l worker (given_for l wanted) (λ k e. given_for-loose l wanted k is e)
+    ∙ ap (λ o. live_carries_more worker o (live_buffer l)) (sym (given_for-live l wanted fits is))
+    ∙ ap (λ b. live_carries_more worker (live_given_for b wanted) b) (looks-live h now)
 
 -- ---- giving back
 

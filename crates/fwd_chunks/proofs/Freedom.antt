@@ -10,8 +10,10 @@ use Rattle.fwd_base.specs.declared.losses.Losses.{Losses}
 use Rattle.fwd_chunks.specs.declared.chunk.Chunk.{Chunk}
 use Rattle.fwd_chunks.specs.declared.chunk_state.ChunkState.{ChunkState}
 use Rattle.fwd_chunks.specs.declared.chunk_state.ChunkState.TheVariants.{Open, Closed, Taken}
-use Rattle.fwd_chunks.specs.Live.{LiveBuffer, is_closed, live_is_free, live_looks, live_given}
-use Rattle.fwd_chunks.specs.Free.{IsFree, IsLeastFree}
+use Rattle.fwd_chunks.specs.declared.wanted.Wanted.{Wanted}
+use Rattle.fwd_chunks.specs.declared.wanted.Wanted.TheVariants.{Any, Fresh}
+use Rattle.fwd_chunks.specs.Live.{LiveBuffer, is_closed, live_is_free, live_looks, live_given, live_asked_for, live_given_for}
+use Rattle.fwd_chunks.specs.Free.{IsFree, IsLeastFree, IsWanted, IsLeastWanted}
 use Rattle.fwd_chunks.specs.Soundness.{IsBefore, AreInOrder, IsSound}
 use Rattle.fwd_chunks.proofs.Numbers.{true_false}
 use Rattle.std.proofs.lemmas.Option.{same_Some}
@@ -165,15 +167,77 @@ pub live-least : (b : LiveBuffer) (now : ℕ) → IsSound b
     → IsLeastFree (live_looks b now) (live_given (live_looks b now))
 live-least b now sound = least-is (live_looks b now) sound.in_order
 
-pub live-only : (b : LiveBuffer) (now : ℕ) (answer : Option Chunk) → IsSound b
-    → IsLeastFree (live_looks b now) answer → answer ≡ live_given (live_looks b now)
-live-only b now answer sound is = by answer (live_given (live_looks b now)) is (live-least b now sound)
+least-only : (b : LiveBuffer) → AreInOrder b.chunks → (answer : Option Chunk)
+    → IsLeastFree b answer → answer ≡ live_given b
+least-only b h answer is = by answer (live_given b) is (least-is b h)
   where
-    by : (a o : Option Chunk) → IsLeastFree (live_looks b now) a
-        → IsLeastFree (live_looks b now) o → a ≡ o
+    by : (a o : Option Chunk) → IsLeastFree b a → IsLeastFree b o → a ≡ o
     by None None f g = refl
     by None (Some c) f g = absurd (f c g.0)
     by (Some c) None f g = absurd (g c f.0)
     by (Some c) (Some d) f g =
-        ap Some (one-chunk b.chunks f.0.place g.0.place c d sound.in_order f.0.stands g.0.stands
+        ap Some (one-chunk b.chunks f.0.place g.0.place c d h f.0.stands g.0.stands
         (omega (arith, f.1 d g.0, g.1 c f.0)))
+
+pub live-only : (b : LiveBuffer) (now : ℕ) (answer : Option Chunk) → IsSound b
+    → IsLeastFree (live_looks b now) answer → answer ≡ live_given (live_looks b now)
+live-only b now answer sound is = least-only (live_looks b now) sound.in_order answer is
+
+-- ---- the same for what is wanted
+
+no-sum : (a b n : ℕ) → a + b ≤ 0 → (a ≡ 0) × (b ≡ 0) × (a + b ≤ n)
+no-sum a b n e = (omega (arith, e), omega (arith, e), omega (arith, e))
+
+-- free for what is wanted is free where the buffer is asked so
+from-asked : (b : LiveBuffer) (wanted : Wanted) (c : Chunk) → IsFree (live_asked_for b wanted) c
+    → IsWanted b wanted c
+from-asked b Any c is = is
+from-asked b Fresh c is = (
+  record {
+    place = is.place;
+    stands = is.stands;
+    shut = is.shut;
+    idle = is.idle;
+    rested = λ l e. (no-sum l.last (wait l) b.moment (is.rested l e)).2;
+  },
+  λ l e. let none = no-sum l.last (wait l) b.moment (is.rested l e) in (none.0, none.1),
+)
+  where
+    wait : Losses → ℕ
+    wait l = wait_after b.setting.limits.retry_wait b.setting.limits.retry_max l.count
+
+to-asked : (b : LiveBuffer) (wanted : Wanted) (c : Chunk) → IsWanted b wanted c
+    → IsFree (live_asked_for b wanted) c
+to-asked b Any c is = is
+to-asked b Fresh c is = record {
+  place = is.0.place;
+  stands = is.0.stands;
+  shut = is.0.shut;
+  idle = is.0.idle;
+  rested = λ l e. let none = is.1 l e in omega (arith, none.0, none.1);
+}
+
+least-from : (b : LiveBuffer) (wanted : Wanted) (o : Option Chunk)
+    → IsLeastFree (live_asked_for b wanted) o → IsLeastWanted b wanted o
+least-from b wanted None is = λ c free. is c (to-asked b wanted c free)
+least-from b wanted (Some c) is =
+    (from-asked b wanted c is.0, λ d free. is.1 d (to-asked b wanted d free))
+
+least-to : (b : LiveBuffer) (wanted : Wanted) (o : Option Chunk) → IsLeastWanted b wanted o
+    → IsLeastFree (live_asked_for b wanted) o
+least-to b wanted None is = λ c free. is c (from-asked b wanted c free)
+least-to b wanted (Some c) is =
+    (to-asked b wanted c is.0, λ d free. is.1 d (from-asked b wanted d free))
+
+pub live-wanted : (b : LiveBuffer) (wanted : Wanted) (now : ℕ) → IsSound b
+    → IsLeastWanted (live_looks b now) wanted (live_given_for (live_looks b now) wanted)
+live-wanted b wanted now sound =
+    let l = live_looks b now in
+    least-from l wanted (live_given_for l wanted) (least-is (live_asked_for l wanted) sound.in_order)
+
+pub live-wanted_only : (b : LiveBuffer) (wanted : Wanted) (now : ℕ) (answer : Option Chunk)
+    → IsSound b → IsLeastWanted (live_looks b now) wanted answer
+    → answer ≡ live_given_for (live_looks b now) wanted
+live-wanted_only b wanted now answer sound is =
+    let l = live_looks b now in
+    least-only (live_asked_for l wanted) sound.in_order answer (least-to l wanted answer is)

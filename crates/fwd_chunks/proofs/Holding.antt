@@ -14,7 +14,8 @@ use Rattle.fwd_chunks.specs.declared.chunk_state.ChunkState.{ChunkState}
 use Rattle.fwd_chunks.specs.declared.chunk_state.ChunkState.TheVariants.{Closed, Taken}
 use Rattle.fwd_chunks.specs.Cells.{size_of}
 use Rattle.fwd_chunks.specs.History.{CarriedChunk, before_runs}
-use Rattle.fwd_chunks.specs.Live.{LiveBuffer, is_open, staged, is_at, live_next_number, is_open_of, may_take, first_chunk, live_adds_to, live_adds, live_adds_all, live_looks, live_enters, live_place, live_runs, live_spans, live_closes, live_flushes, live_given, live_carries_more, live_takes, live_carried_chunk, live_carried, IsCarried, is_taken, live_frees, live_settles}
+use Rattle.fwd_chunks.specs.declared.wanted.Wanted.{Wanted}
+use Rattle.fwd_chunks.specs.Live.{LiveBuffer, is_open, staged, is_at, live_next_number, is_open_of, may_take, first_chunk, live_adds_to, live_adds, live_adds_all, live_looks, live_enters, live_place, live_runs, live_spans, live_closes, live_flushes, live_given_for, live_carries_more, live_takes, live_carried_chunk, live_carried, IsCarried, is_taken, live_frees, live_settles}
 use Rattle.fwd_base.specs.Tallies.{tally_more}
 use Rattle.fwd_chunks.specs.Soundness.{IsBefore, AreInOrder, IsSound}
 use Rattle.fwd_chunks.specs.Spans.{run_in, AreRising, AreCutBy, IsHeld, AreHeld, IsGone}
@@ -590,8 +591,9 @@ flushes-stays b now kind =
     map-stays b (live_flushes b now kind) (λ c. cond (live_closes (live_looks b now) kind c) (staged Closed c) c)
     (restages-if (live_closes (live_looks b now) kind) (staged Closed) (restaged Closed)) refl refl
 
-pub takes-stays : (b : LiveBuffer) (worker now : ℕ) → Stays b (live_takes b worker now)
-takes-stays b worker now = by (live_given (live_looks b now))
+pub takes-stays : (b : LiveBuffer) (worker : ℕ) (wanted : Wanted) (now : ℕ)
+    → Stays b (live_takes b worker wanted now)
+takes-stays b worker wanted now = by (live_given_for (live_looks b now) wanted)
   where
     by : (o : Option Chunk) → Stays b (live_carries_more worker o (live_looks b now))
     by None = record { held = λ tag s own h. h; gone = λ n h. record { none = h.none; given = h.given } }

@@ -10,14 +10,15 @@ use Rattle.fwd_modes.specs.declared.origin.Origin.{Origin}
 use Rattle.fwd_modes.specs.Requests.{Request}
 use Rattle.fwd_chunks.specs.declared.fault.AdmitError.{AdmitError}
 use Rattle.fwd_chunks.specs.Cells.{Cell, cells_at, first_tag, has_number, numbers_of, has_entry, last_number, is_carried}
-use Rattle.fwd_chunks.specs.History.{BufferSetting, BufferHistory, opening, next_number, joins, adds, adds_all, looks, enters, refusal, is_free, lesser, least, given, IsGiven, carried_chunk_of, settles, frees}
+use Rattle.fwd_chunks.specs.declared.wanted.Wanted.{Wanted}
+use Rattle.fwd_chunks.specs.History.{BufferSetting, BufferHistory, opening, next_number, joins, adds, adds_all, looks, enters, refusal, is_free, lesser, least, given, given_for, IsGiven, carried_chunk_of, settles, frees}
 use Rattle.fwd_chunks.specs.Events.{BufferEvent, Enter, Flush, Take, Settle, Free, unless_refused, history_next, history_after, IsReached, NumbersRise, TagNumbersRise, NumbersHaveOneTag}
-use Rattle.fwd_chunks.specs.Live.{live_buffer, live_opening, live_chunk, live_given, live_carried_chunk, live_settles, live_frees, live_next}
+use Rattle.fwd_chunks.specs.Live.{live_buffer, live_opening, live_chunk, live_given_for, live_carried_chunk, live_settles, live_frees, live_next}
 use Rattle.fwd_chunks.specs.Soundness.{IsSound}
 use Rattle.fwd_chunks.proofs.Numbers.{true_false, not_from, eq_same, has_number-filter}
 use Rattle.fwd_chunks.proofs.CellLemmas.{any-push, has_entry-cell, last_number-entry, below-next}
 use Rattle.fwd_chunks.proofs.Sane.{IsSane, joins_or_begins, cell_at, adds-at, next-sane, opening-sane, reached-sane, free_parts}
-use Rattle.fwd_chunks.proofs.Follows.{enters-live, refusal-live, flushes-live, given-live, takes-live, carried-live, settles-live, frees-live}
+use Rattle.fwd_chunks.proofs.Follows.{enters-live, refusal-live, flushes-live, given_for-live, takes-live, carried-live, settles-live, frees-live}
 use Rattle.fwd_chunks.proofs.Sounding.{opening-sound, next-sound}
 use Rattle.std.proofs.lemmas.Option.{same_Some}
 use Rattle.std.proofs.lemmas.Bool.{eqb-true}
@@ -45,7 +46,7 @@ next-live h (Enter origin r now) fits own =
     by None = refl
     by (Some fault) = refl
 next-live h (Flush now kind) fits own = flushes-live h now kind own
-next-live h (Take worker now) fits own = takes-live h worker now fits own
+next-live h (Take worker wanted now) fits own = takes-live h worker wanted now fits own
 next-live h (Settle number) fits own =
     by (is_carried number h.carried) refl ∙ ap (λ b. cond b (live_settles (live_buffer h) number) (live_buffer h)) (sym (ap is_some (carried-live h number own) ∙ some-carried (is_carried number h.carried) h number))
   where
@@ -79,7 +80,7 @@ next-setting h (Enter origin r now) = by (refusal h origin r now)
     by None = adds_all-setting r.entries (looks h now) r.tag origin
     by (Some fault) = refl
 next-setting h (Flush now kind) = refl
-next-setting h (Take worker now) = refl
+next-setting h (Take worker wanted now) = refl
 next-setting h (Settle number) = by (is_carried number h.carried)
   where
     by : (b : Bool) → (cond b (settles h number) h).setting ≡ h.setting
@@ -198,11 +199,12 @@ given-only h answer is = by answer (given h) is (given-is h)
     by (Some k) None f g = absurd (true_false (is_free h k) f.0 (g k))
     by (Some j) (Some k) f g = ap Some (omega (arith, f.1 k g.0, g.1 j f.0))
 
-pub load-live : (h : BufferHistory) → h.setting.limits.retry_max < 2 ^ 64 → IsSane h
-    → option_map (carried_chunk_of h) (given h)
-    ≡ option_map (live_carried_chunk (live_buffer h)) (live_given (live_buffer h))
+pub load-live : (h : BufferHistory) (wanted : Wanted) → h.setting.limits.retry_max < 2 ^ 64
+    → IsSane h
+    → option_map (carried_chunk_of h) (given_for h wanted)
+    ≡ option_map (live_carried_chunk (live_buffer h)) (live_given_for (live_buffer h) wanted)
 unfolding live_buffer
-load-live h fits own = by (given h) ∙ ap (option_map (live_carried_chunk (live_buffer h))) (sym (given-live h fits own))
+load-live h wanted fits own = by (given_for h wanted) ∙ ap (option_map (live_carried_chunk (live_buffer h))) (sym (given_for-live h wanted fits own))
   where
     by : (o : Option ℕ)
         → option_map (carried_chunk_of h) o ≡ option_map (live_carried_chunk (live_buffer h))
@@ -301,7 +303,7 @@ next-rise h (Enter origin r now) rise = by (refusal h origin r now)
     by None = adds_all-rise r.entries (looks h now) r.tag origin rise
     by (Some fault) = rise
 next-rise h (Flush now kind) rise = rise
-next-rise h (Take worker now) rise = rise
+next-rise h (Take worker wanted now) rise = rise
 next-rise h (Settle number) rise = by (is_carried number h.carried)
   where
     by : (b : Bool) → TagsRise (cond b (settles h number) h).cells

@@ -10,7 +10,8 @@ use Rattle.fwd_modes.specs.Requests.{Request}
 use Rattle.fwd_chunks.specs.declared.flush.FlushKind.{FlushKind}
 use Rattle.fwd_chunks.specs.declared.fault.AdmitError.{AdmitError}
 use Rattle.fwd_chunks.specs.Cells.{Cell, size_of, cells_at, contents, first_tag, has_number, numbers_of, has_entry, last_number, is_carried, without, losses_of}
-use Rattle.fwd_chunks.specs.History.{BufferSetting, BufferHistory, opening, next_number, has_room, joined_to, joins, adds, adds_all, looks, enters, refusal, closes, flushes, is_over, is_free, given, carry_more, takes, settles, frees}
+use Rattle.fwd_chunks.specs.declared.wanted.Wanted.{Wanted}
+use Rattle.fwd_chunks.specs.History.{BufferSetting, BufferHistory, opening, next_number, has_room, joined_to, joins, adds, adds_all, looks, enters, refusal, closes, flushes, is_over, is_free, given, asked_for, given_for, carry_more, takes, settles, frees}
 use Rattle.fwd_chunks.specs.Events.{BufferEvent, Enter, Flush, Take, Settle, Free, unless_refused, history_next, history_after, IsReached}
 use Rattle.fwd_chunks.proofs.Numbers.{true_false, not_from, eq_same, has_number-push, has_number-filter, AreRising, rising-push, least_first, found}
 use Rattle.fwd_chunks.proofs.CellLemmas.{has_cell, any-push, numbers-has, numbers-push, cells_at-here, cells_at-elsewhere, cells_at-none, cells_at-some, first_tag-push, has_entry-cell, first_tag-entry, last_number-push, last_number-entry, below-next, is_carried-push, is_carried-without, losses-elsewhere}
@@ -44,6 +45,21 @@ opening-sane setting = record {
 
 pub looks-sane : (h : BufferHistory) (now : ℕ) → IsSane h → IsSane (looks h now)
 looks-sane h now own = record {
+  rising = own.rising;
+  opened_has = own.opened_has;
+  opened_last = own.opened_last;
+  opened_unacked = own.opened_unacked;
+  opened_uncarried = own.opened_uncarried;
+  one_tag = own.one_tag;
+  acked_has = own.acked_has;
+  carried_has = own.carried_has;
+  carried_unacked = own.carried_unacked;
+  lost_has = own.lost_has;
+}
+
+-- a history as it is asked differs in its moment alone
+pub asked-sane : (h : BufferHistory) (wanted : Wanted) → IsSane h → IsSane (asked_for h wanted)
+asked-sane h wanted own = record {
   rising = own.rising;
   opened_has = own.opened_has;
   opened_last = own.opened_last;
@@ -334,6 +350,14 @@ pub given-free : (h : BufferHistory) (k : ℕ) → IsSane h → given h ≡ Some
     → is_free h k ≡ true
 given-free h k own e = (found (is_free h) k (numbers_of h.cells) (sym (least_first (is_free h) (numbers_of h.cells) own.rising) ∙ e)).1
 
+-- what is given for what is wanted is closed, not acknowledged, and no worker has it
+pub given_for-loose : (h : BufferHistory) (wanted : Wanted) (k : ℕ) → IsSane h
+    → given_for h wanted ≡ Some k → Loose h k
+given_for-loose h wanted k own e =
+    let asked = asked_for h wanted in
+    let is = free_parts asked k (given-free asked k (asked-sane h wanted own) e) in
+    record { has = is.has; closed = is.closed; unacked = is.unacked; uncarried = is.uncarried }
+
 carried_more-sane : (h : BufferHistory) (worker : ℕ) (o : Option ℕ) → IsSane h
     → ((k : ℕ) → o ≡ Some k → Loose h k)
     → IsSane (record h { carried = carry_more worker o h.carried })
@@ -375,9 +399,11 @@ carried_more-sane h worker (Some n) own free =
     neither true b e f = e
     neither false b e f = f
 
-pub takes-sane : (h : BufferHistory) (worker now : ℕ) → IsSane h → IsSane (takes h worker now)
-takes-sane h worker now own =
-    carried_more-sane (looks h now) worker (given (looks h now)) (looks-sane h now own) (λ k e. free_parts (looks h now) k (given-free (looks h now) k (looks-sane h now own) e))
+pub takes-sane : (h : BufferHistory) (worker : ℕ) (wanted : Wanted) (now : ℕ) → IsSane h
+    → IsSane (takes h worker wanted now)
+takes-sane h worker wanted now own =
+    let l = looks h now in
+    carried_more-sane l worker (given_for l wanted) (looks-sane h now own) (λ k e. given_for-loose l wanted k (looks-sane h now own) e)
 
 pub settles-sane : (h : BufferHistory) (n : ℕ) → IsSane h → is_carried n h.carried ≡ true
     → IsSane (settles h n)
@@ -445,7 +471,7 @@ next-sane h (Enter origin r now) own = by (refusal h origin r now)
     by None = enters-sane h origin r now own
     by (Some fault) = own
 next-sane h (Flush now kind) own = flushes-sane h now kind own
-next-sane h (Take worker now) own = takes-sane h worker now own
+next-sane h (Take worker wanted now) own = takes-sane h worker wanted now own
 next-sane h (Settle number) own = by (is_carried number h.carried) refl
   where
     by : (b : Bool) → is_carried number h.carried ≡ b → IsSane (cond b (settles h number) h)

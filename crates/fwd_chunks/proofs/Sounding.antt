@@ -13,7 +13,8 @@ use Rattle.fwd_chunks.specs.declared.chunk_state.ChunkState.TheVariants.{Closed,
 use Rattle.fwd_chunks.specs.Cells.{size_of}
 use Rattle.fwd_chunks.specs.History.{BufferSetting}
 use Rattle.fwd_chunks.specs.Events.{BufferEvent, Enter, Flush, Take, Settle, Free, unless_refused}
-use Rattle.fwd_chunks.specs.Live.{LiveBuffer, live_opening, is_open, staged, changed, is_at, held_in, bytes_in, live_next_number, is_open_of, may_take, first_chunk, live_adds_to, live_adds, live_adds_all, live_looks, live_enters, live_is_full, live_is_spent, live_refusal, live_closes, live_flushes, live_given, live_carries_more, live_takes, live_carried, live_settles, live_frees, live_next}
+use Rattle.fwd_chunks.specs.declared.wanted.Wanted.{Wanted}
+use Rattle.fwd_chunks.specs.Live.{LiveBuffer, live_opening, is_open, staged, changed, is_at, held_in, bytes_in, live_next_number, is_open_of, may_take, first_chunk, live_adds_to, live_adds, live_adds_all, live_looks, live_enters, live_is_full, live_is_spent, live_refusal, live_closes, live_flushes, live_given_for, live_carries_more, live_takes, live_carried, live_settles, live_frees, live_next}
 use Rattle.fwd_base.specs.Tallies.{tally_more}
 use Rattle.fwd_chunks.specs.Soundness.{IsBefore, AreInOrder, IsWithin, IsSound}
 use Rattle.fwd_chunks.proofs.Numbers.{not_from, eq_same}
@@ -490,9 +491,9 @@ pub carries_more-sound : (b : LiveBuffer) (worker : ℕ) (o : Option Chunk) → 
 carries_more-sound b worker None own = own
 carries_more-sound b worker (Some c) own = changed-sound b (is_at c.number) (staged (Taken worker)) b.moment (λ c. refl) (λ c. refl) (λ c. refl) (λ c. refl) own
 
-pub takes-sound : (b : LiveBuffer) (worker now : ℕ) → IsSound b
-    → IsSound (live_takes b worker now)
-takes-sound b worker now own = carries_more-sound (live_looks b now) worker (live_given (live_looks b now)) (looks-sound b now own)
+pub takes-sound : (b : LiveBuffer) (worker : ℕ) (wanted : Wanted) (now : ℕ) → IsSound b
+    → IsSound (live_takes b worker wanted now)
+takes-sound b worker wanted now own = carries_more-sound (live_looks b now) worker (live_given_for (live_looks b now) wanted) (looks-sound b now own)
 
 pub settles-sound : (b : LiveBuffer) (n : ℕ) → IsSound b → IsSound (live_settles b n)
 settles-sound b n own = record {
@@ -524,7 +525,7 @@ next-sound b (Enter origin r now) own = by (live_refusal b r now) refl
     by None e = enters-sound b r now own e
     by (Some fault) e = own
 next-sound b (Flush now kind) own = flushes-sound b now kind own
-next-sound b (Take worker now) own = takes-sound b worker now own
+next-sound b (Take worker wanted now) own = takes-sound b worker wanted now own
 next-sound b (Settle number) own = by (is_some (live_carried b number))
   where
     by : (t : Bool) → IsSound (cond t (live_settles b number) b)

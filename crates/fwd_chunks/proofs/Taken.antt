@@ -12,7 +12,8 @@ use Rattle.fwd_chunks.specs.declared.chunk_state.ChunkState.{ChunkState}
 use Rattle.fwd_chunks.specs.declared.chunk_state.ChunkState.TheVariants.{Open, Closed, Taken}
 use Rattle.fwd_chunks.specs.Cells.{size_of}
 use Rattle.fwd_chunks.specs.History.{CarriedChunk}
-use Rattle.fwd_chunks.specs.Live.{LiveBuffer, is_open, is_closed, is_taken, staged, changed, is_at, is_open_of, may_take, first_chunk, live_adds_to, live_adds, live_adds_all, live_looks, live_enters, is_due, live_closes, live_flushes, live_is_free, live_given, live_carries_more, live_takes, live_carried_chunk, live_carried, live_settles, live_frees}
+use Rattle.fwd_chunks.specs.declared.wanted.Wanted.{Wanted}
+use Rattle.fwd_chunks.specs.Live.{LiveBuffer, is_open, is_closed, is_taken, staged, changed, is_at, is_open_of, may_take, first_chunk, live_adds_to, live_adds, live_adds_all, live_looks, live_enters, is_due, live_closes, live_flushes, live_is_free, live_given, live_asked_for, live_given_for, live_carries_more, live_takes, live_carried_chunk, live_carried, live_settles, live_frees}
 use Rattle.fwd_base.specs.Tallies.{live_is_over, tally_more}
 use Rattle.fwd_chunks.specs.Soundness.{IsBefore, AreInOrder, IsSound}
 use Rattle.fwd_chunks.proofs.Numbers.{not_from, eq_same}
@@ -165,47 +166,52 @@ given-closed : (b : LiveBuffer) (c : Chunk) → live_given b ≡ Some c
 given-closed b c e =
     closed-free c.stage (and_parts (is_closed c.stage) (live_is_over b.setting.limits.retry_wait b.setting.limits.retry_max c.losses b.moment) (found-passes (live_is_free b) b.chunks c e)).0
 
-pub given-free : (b : LiveBuffer) (now : ℕ) (c : Chunk) → IsSound b
-    → live_given (live_looks b now) ≡ Some c → live_carried b c.number ≡ None
-given-free b now c own given =
+-- the buffer as it is asked at a moment for what is wanted
+abbrev asked : LiveBuffer → Wanted → ℕ → LiveBuffer
+asked b wanted now = live_asked_for (live_looks b now) wanted
+
+pub given-free : (b : LiveBuffer) (wanted : Wanted) (now : ℕ) (c : Chunk) → IsSound b
+    → live_given_for (live_looks b now) wanted ≡ Some c → live_carried b c.number ≡ None
+given-free b wanted now c own given =
     ap (option_map (live_carried_chunk b)) (find-none (has c.number) b.chunks
     (all-mapped (λ d. (d.number == c.number) ≡ true → d ≡ c) (λ d. has c.number d ≡ false)
-    (λ d only. at d only (is_at c.number d) refl) b.chunks (found-only (live_is_free (live_looks b now)) b.chunks c own.in_order given)))
+    (λ d only. at d only (is_at c.number d) refl) b.chunks (found-only (live_is_free (asked b wanted now)) b.chunks c own.in_order given)))
   where
     at : (d : Chunk) → ((d.number == c.number) ≡ true → d ≡ c) → (t : Bool) → is_at c.number d ≡ t
         → has c.number d ≡ false
-    at d only true e = free-not c.number d (ap (λ x. is_taken x.stage) (only e) ∙ given-closed (live_looks b now) c given)
+    at d only true e = free-not c.number d (ap (λ x. is_taken x.stage) (only e) ∙ given-closed (asked b wanted now) c given)
     at d only false e = ap (λ t. t && is_taken d.stage) e
 
 -- it is carried afterwards, and all else that was carried
-pub carried-takes : (b : LiveBuffer) (worker now n : ℕ) (load : CarriedChunk) → IsSound b
-    → live_carried b n ≡ Some load → live_carried (live_takes b worker now) n ≡ Some load
-carried-takes b worker now n load own carried = by (live_given (live_looks b now)) refl
+pub carried-takes : (b : LiveBuffer) (worker : ℕ) (wanted : Wanted) (now n : ℕ)
+    (load : CarriedChunk) → IsSound b
+    → live_carried b n ≡ Some load → live_carried (live_takes b worker wanted now) n ≡ Some load
+carried-takes b worker wanted now n load own carried = by (live_given_for (live_looks b now) wanted) refl
   where
-    by : (o : Option Chunk) → live_given (live_looks b now) ≡ o
+    by : (o : Option Chunk) → live_given_for (live_looks b now) wanted ≡ o
         → live_carried (live_carries_more worker o (live_looks b now)) n ≡ Some load
     by None e = carried
     by (Some c) e =
         ap (option_map (live_carried_chunk b)) (find-changed (has n) (is_at c.number) (staged (Taken worker)) b.chunks
         (all-mapped (λ d. (d.number == c.number) ≡ true → d ≡ c) (λ d. is_at c.number d ≡ true → (has n d ≡ false) × (has n (staged (Taken worker) d) ≡ false))
         (λ d only at. (
-          free-not n d (ap (λ x. is_taken x.stage) (only at) ∙ given-closed (live_looks b now) c e),
+          free-not n d (ap (λ x. is_taken x.stage) (only at) ∙ given-closed (asked b wanted now) c e),
           ap (λ t. t && true) (ap (λ x. is_at n x) (only at) ∙ apart),
-        )) b.chunks (found-only (live_is_free (live_looks b now)) b.chunks c own.in_order e)))
+        )) b.chunks (found-only (live_is_free (asked b wanted now)) b.chunks c own.in_order e)))
         ∙ carried
       where
         clash : None ≡ Some load → ⊥
         clash f = cc
 
         apart : is_at n c ≡ false
-        apart = not_from (is_at n c) (λ f. clash (sym (given-free b now c own e) ∙ ap (live_carried b) (eqb-true c.number n f) ∙ carried))
+        apart = not_from (is_at n c) (λ f. clash (sym (given-free b wanted now c own e) ∙ ap (live_carried b) (eqb-true c.number n f) ∙ carried))
 
-pub given-carried : (b : LiveBuffer) (worker now : ℕ) (c : Chunk) → IsSound b
-    → live_given (live_looks b now) ≡ Some c
-    → live_carried (live_takes b worker now) c.number ≡ Some (live_carried_chunk b c)
-given-carried b worker now c own given =
+pub given-carried : (b : LiveBuffer) (worker : ℕ) (wanted : Wanted) (now : ℕ) (c : Chunk) → IsSound b
+    → live_given_for (live_looks b now) wanted ≡ Some c
+    → live_carried (live_takes b worker wanted now) c.number ≡ Some (live_carried_chunk b c)
+given-carried b worker wanted now c own given =
     ap (λ o. live_carried (live_carries_more worker o (live_looks b now)) c.number) given
-    ∙ ap (option_map (live_carried_chunk b)) (find-taken (live_is_free (live_looks b now)) worker b.chunks c own.in_order given)
+    ∙ ap (option_map (live_carried_chunk b)) (find-taken (live_is_free (asked b wanted now)) worker b.chunks c own.in_order given)
 
 -- ---- settling
 

@@ -16,6 +16,7 @@ use Rattle.std.specs.Prelude.{
 use Rattle.fwd_modes.specs.Requests.{Request}
 use Rattle.fwd_modes.specs.declared.origin.Origin.{Origin}
 use Rattle.fwd_chunks.specs.declared.flush.FlushKind.{FlushKind}
+use Rattle.fwd_chunks.specs.declared.wanted.Wanted.{Wanted}
 use Rattle.fwd_chunks.specs.declared.fault.AdmitError.{AdmitError}
 use Rattle.fwd_chunks.specs.Cells.{Cell, is_carried}
 use Rattle.fwd_chunks.specs.History.{
@@ -30,12 +31,12 @@ use Rattle.fwd_chunks.specs.History.{
   frees,
 }
 
--- a request is handed in; open numbers are closed; a worker asks for a chunk; a number was
--- acknowledged; it is given back
+-- a request is handed in; open numbers are closed; a worker asks for a chunk that it wants; a
+-- number was acknowledged; it is given back
 pub data BufferEvent : Type 0 where
   Enter : (origin : Origin) (r : Request) (now : ℕ) → BufferEvent
   Flush : (now : ℕ) (kind : FlushKind) → BufferEvent
-  Take : (worker now : ℕ) → BufferEvent
+  Take : (worker : ℕ) (wanted : Wanted) (now : ℕ) → BufferEvent
   Settle : (number : ℕ) → BufferEvent
   Free : (number : ℕ) (loss : Option ℕ) → BufferEvent
 
@@ -49,7 +50,7 @@ abbrev pub history_next : BufferHistory → BufferEvent → BufferHistory
 history_next h (Enter origin r now) =
     unless_refused (refusal h origin r now) (enters h origin r now) h
 history_next h (Flush now kind) = flushes h now kind
-history_next h (Take worker now) = takes h worker now
+history_next h (Take worker wanted now) = takes h worker wanted now
 history_next h (Settle number) = if is_carried number h.carried then settles h number else h
 history_next h (Free number loss) = if is_carried number h.carried then frees h number loss else h
 

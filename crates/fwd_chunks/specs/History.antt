@@ -36,6 +36,8 @@ use Rattle.fwd_modes.specs.declared.origin.Origin.{Origin}
 use Rattle.fwd_chunks.specs.declared.limits.BufferLimits.{BufferLimits}
 use Rattle.fwd_chunks.specs.declared.flush.FlushKind.{FlushKind}
 use Rattle.fwd_chunks.specs.declared.flush.FlushKind.TheVariants.{Due, All}
+use Rattle.fwd_chunks.specs.declared.wanted.Wanted.{Wanted}
+use Rattle.fwd_chunks.specs.declared.wanted.Wanted.TheVariants.{Any, Fresh}
 use Rattle.fwd_base.specs.declared.counts.Counts.{Counts}
 use Rattle.fwd_chunks.specs.declared.span.Span.{Span}
 use Rattle.fwd_chunks.specs.declared.fault.AdmitError.{AdmitError}
@@ -251,17 +253,31 @@ IsGiven h None = (k : ℕ) → is_free h k ≡ false
 IsGiven h (Some number) =
     (is_free h number ≡ true) × ((k : ℕ) → is_free h k ≡ true → number ≤ k)
 
+-- the moment at which a chunk's wait has to be over: the greatest so far; or the very first, where
+-- only a chunk is wanted that no loss ever held back
+abbrev pub moment_for : Wanted → ℕ → ℕ
+moment_for Any moment = moment
+moment_for Fresh moment = 0
+
+-- the history as it is asked for what is wanted
+abbrev pub asked_for : BufferHistory → Wanted → BufferHistory
+asked_for h wanted = record h { moment = moment_for wanted h.moment }
+
+-- the least number that is free for what is wanted
+abbrev pub given_for : BufferHistory → Wanted → Option ℕ
+given_for h wanted = given (asked_for h wanted)
+
 -- a worker has the number, if there is one
 abbrev pub carry_more : ℕ → Option ℕ → List Carry → List Carry
 carry_more worker None carried = carried
 carry_more worker (Some number) carried =
     carried ++ record { worker = worker; number = number } ∷ []
 
--- a worker takes what is given at a moment
-abbrev pub takes : BufferHistory → ℕ → ℕ → BufferHistory
-takes h worker now =
+-- a worker takes at a moment what is given for what it wants
+abbrev pub takes : BufferHistory → ℕ → Wanted → ℕ → BufferHistory
+takes h worker wanted now =
     record h {
-      carried = carry_more worker (given (looks h now)) h.carried;
+      carried = carry_more worker (given_for (looks h now) wanted) h.carried;
       moment = max h.moment now;
     }
 

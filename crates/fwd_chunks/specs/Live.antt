@@ -6,6 +6,8 @@ use Rattle.fwd_modes.specs.Requests.{Request}
 use Rattle.fwd_modes.specs.Frames.{chunk_name}
 use Rattle.fwd_chunks.specs.declared.flush.FlushKind.{FlushKind}
 use Rattle.fwd_chunks.specs.declared.flush.FlushKind.TheVariants.{Due, All}
+use Rattle.fwd_chunks.specs.declared.wanted.Wanted.{Wanted}
+use Rattle.fwd_chunks.specs.declared.free_chunk.FreeChunk.{FreeChunk}
 use Rattle.fwd_chunks.specs.declared.chunk.Chunk.{Chunk}
 use Rattle.fwd_base.specs.declared.counts.Counts.{Counts}
 use Rattle.fwd_chunks.specs.declared.span.Span.{Span}
@@ -28,7 +30,7 @@ use Rattle.fwd_chunks.specs.Cells.{
   number_after,
   losses_of,
 }
-use Rattle.fwd_chunks.specs.History.{BufferSetting, BufferHistory, CarriedChunk, unsettled, before_runs}
+use Rattle.fwd_chunks.specs.History.{BufferSetting, BufferHistory, CarriedChunk, unsettled, before_runs, moment_for}
 use Rattle.fwd_chunks.specs.Events.{BufferEvent, Enter, Flush, Take, Settle, Free, unless_refused}
 
 -- ---- the live part
@@ -246,16 +248,24 @@ live_is_free b c =
 abbrev pub live_given : LiveBuffer → Option Chunk
 live_given b = find (live_is_free b) b.chunks
 
+-- the buffer as it is asked for what is wanted
+abbrev pub live_asked_for : LiveBuffer → Wanted → LiveBuffer
+live_asked_for b wanted = record b { moment = moment_for wanted b.moment }
+
+-- the chunk of the least number that is free for what is wanted
+abbrev pub live_given_for : LiveBuffer → Wanted → Option Chunk
+live_given_for b wanted = live_given (live_asked_for b wanted)
+
 -- a worker has the chunk, if there is one
 abbrev pub live_carries_more : ℕ → Option Chunk → LiveBuffer → LiveBuffer
 live_carries_more worker None b = b
 live_carries_more worker (Some c) b =
     record b { chunks = changed (is_at c.number) (staged (Taken worker)) b.chunks }
 
--- a worker takes the free chunk of the least number, if there is one
-abbrev pub live_takes : LiveBuffer → ℕ → ℕ → LiveBuffer
-live_takes b worker now =
-    live_carries_more worker (live_given (live_looks b now)) (live_looks b now)
+-- a worker takes the chunk of the least number that is free for what it wants, if there is one
+abbrev pub live_takes : LiveBuffer → ℕ → Wanted → ℕ → LiveBuffer
+live_takes b worker wanted now =
+    live_carries_more worker (live_given_for (live_looks b now) wanted) (live_looks b now)
 
 -- what a worker has of a chunk
 abbrev pub live_carried_chunk : LiveBuffer → Chunk → CarriedChunk
@@ -270,6 +280,10 @@ live_carried_chunk b c = record {
 abbrev pub times_lost : Option Losses → ℕ
 times_lost None = 0
 times_lost (Some l) = l.count
+
+-- what is told of a chunk that a worker may have
+abbrev pub live_free_chunk : Chunk → FreeChunk
+live_free_chunk c = record { number = c.number; losses = times_lost c.losses }
 
 -- how often the chunk was lost; one that is not there never was
 abbrev pub losses_in : Option Chunk → ℕ
@@ -323,7 +337,7 @@ live_counts b = record {
 abbrev pub live_next : LiveBuffer → BufferEvent → LiveBuffer
 live_next b (Enter origin r now) = unless_refused (live_refusal b r now) (live_enters b r now) b
 live_next b (Flush now kind) = live_flushes b now kind
-live_next b (Take worker now) = live_takes b worker now
+live_next b (Take worker wanted now) = live_takes b worker wanted now
 live_next b (Settle number) = if is_some (live_carried b number) then live_settles b number else b
 live_next b (Free number loss) =
     if is_some (live_carried b number) then live_frees b number loss else b

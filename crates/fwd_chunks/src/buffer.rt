@@ -45,6 +45,8 @@ ghost use Rattle.fwd_chunks.specs.Live.{
   live_closing,
   live_flushes,
   live_given,
+  live_given_for,
+  live_free_chunk,
   live_takes,
   live_carried_chunk,
   live_losses,
@@ -65,11 +67,13 @@ use crate::entering::Fresh;
 use crate::entry_range::EntryRange;
 use crate::fault::AdmitError;
 use crate::flush::FlushKind;
+use crate::free_chunk::FreeChunk;
 use crate::limits::BufferLimits;
 use crate::plan::Plan;
 use crate::snapshot::Snapshot;
 use crate::spans::Spans;
 use crate::tags::Tags;
+use crate::wanted::Wanted;
 use fwd_base::{Counts, Report, Retry};
 use fwd_modes::{Batch, Origin, TAG_LIMIT, chunk_name};
 use std::alloc::{AllocError, Global};
@@ -442,6 +446,27 @@ impl Buffer {
         self.moment = moment;
     }
 
+    /// The chunk of the least number that is free at a moment for what is wanted, and its key.
+    fn first_wanted(&self, wanted: Wanted, now: u64) -> Option<(&Chunk, usize)>
+        ensures { option_map (λ p. p.0.now) result
+            ≡ live_given_for (live_looks self.now now) wanted }
+    {
+        self.index.first_free(wanted.moment(self.moment.max(now)))
+    }
+
+    /// Tells of the chunk that a worker would be given at a moment (milliseconds), if there is one.
+    /// Nothing is taken, and the greatest moment stays as it was.
+    pub fn wanted(&self, wanted: Wanted, now: u64) -> Option<FreeChunk>
+        ensures { result ≡ option_map live_free_chunk
+            (live_given_for (live_looks self.now now) wanted) }
+    {
+        let (chunk, _) = self.first_wanted(wanted, now)?;
+        Some(FreeChunk {
+            number: chunk.number,
+            losses: chunk.times_lost(),
+        })
+    }
+
     /// Gives a worker the free chunk of the least number at a moment (milliseconds), if there is
     /// one, and takes no memory where there is none. On an error nothing has changed.
     pub fn take(
@@ -453,14 +478,34 @@ impl Buffer {
         ensures given { IfOk result (λ carried.
             carried ≡ option_map (live_carried_chunk self.old)
             (live_given (live_looks self.old now))) }
-        ensures ok { OnOk result (self.new ≡ live_takes self.old worker now) }
+        ensures ok { OnOk result (self.new ≡ live_takes self.old worker Wanted.Any now) }
         ensures err { OnErr result (self.new ≡ self.old) }
 
         // Where none is free, no memory is taken.
         ensures none { live_given (live_looks self.old now) ≡ None → IsOk result }
     {
+        self.take_wanted(alloc, worker, Wanted::Any, now)
+    }
+
+    /// As `take`, but with the chunk of the least number that is free for what the worker wants.
+    pub fn take_wanted(
+        &mut self,
+        alloc: Global,
+        worker: u16,
+        wanted: Wanted,
+        now: u64,
+    ) -> Result<Option<Carried>, AllocError>
+        ensures given { IfOk result (λ carried.
+            carried ≡ option_map (live_carried_chunk self.old)
+            (live_given_for (live_looks self.old now) wanted)) }
+        ensures ok { OnOk result (self.new ≡ live_takes self.old worker wanted now) }
+        ensures err { OnErr result (self.new ≡ self.old) }
+
+        // Where none is free, no memory is taken.
+        ensures none { live_given_for (live_looks self.old now) wanted ≡ None → IsOk result }
+    {
         let moment = self.moment.max(now);
-        let Some((chunk, key)) = self.index.first_free(moment) else {
+        let Some((chunk, key)) = self.first_wanted(wanted, now) else {
             self.moment = moment;
             return Ok(None);
         };
@@ -491,7 +536,7 @@ impl Buffer {
     {
         match self.index.get(carried.number(), carried.key()) {
             None => 0,
-            Some(chunk) => chunk.losses.map_or(0, |losses| losses.count),
+            Some(chunk) => chunk.times_lost(),
         }
     }
 

@@ -1,5 +1,5 @@
 ghost use Rattle.std.specs.Prelude.{◌≡◌};
-ghost use Rattle.fwd_chunks.specs.Live.{is_taken, is_open_of};
+ghost use Rattle.fwd_chunks.specs.Live.{is_taken, is_open_of, times_lost};
 
 use crate::body::Body;
 use crate::chunk_state::ChunkState;
@@ -26,6 +26,13 @@ impl Chunk {
         ensures { result ≡ is_taken self.now.stage }
     {
         matches!(self.stage, ChunkState::Taken(_))
+    }
+
+    /// How often the chunk was lost, where 65 stands for every greater count.
+    pub(crate) fn times_lost(&self) -> u8
+        ensures { result ≡ times_lost self.now.losses }
+    {
+        self.losses.map_or(0, |losses| losses.count)
     }
 
     /// Whether the chunk is open, and of the tag.

@@ -21,6 +21,7 @@ ghost use Rattle.fwd_modes.specs.Requests.{Request};
 ghost use Rattle.fwd_modes.specs.declared.origin.Origin.{Origin};
 ghost use Rattle.fwd_chunks.specs.declared.chunk.Chunk.{Chunk};
 ghost use Rattle.fwd_chunks.specs.declared.flush.FlushKind.{FlushKind};
+ghost use Rattle.fwd_chunks.specs.declared.wanted.Wanted.{Wanted};
 ghost use Rattle.fwd_chunks.specs.Cells.{is_carried};
 ghost use Rattle.fwd_chunks.specs.declared.span.Span.{Span};
 ghost use Rattle.fwd_chunks.specs.History.{
@@ -34,6 +35,7 @@ ghost use Rattle.fwd_chunks.specs.History.{
   closing,
   looks,
   given,
+  given_for,
   IsGiven,
   carried_chunk_of,
   counts,
@@ -59,6 +61,7 @@ ghost use Rattle.fwd_chunks.specs.Live.{
   live_closing,
   live_flushes,
   live_given,
+  live_given_for,
   live_takes,
   live_carried_chunk,
   live_carried,
@@ -74,7 +77,7 @@ ghost use Rattle.fwd_chunks.specs.TagCounts.{
   report,
   live_report,
 };
-ghost use Rattle.fwd_chunks.specs.Free.{IsLeastFree};
+ghost use Rattle.fwd_chunks.specs.Free.{IsLeastFree, IsLeastWanted};
 ghost use Rattle.fwd_chunks.specs.Soundness.{IsSound};
 ghost use Rattle.fwd_chunks.specs.Spans.{run_in, AreRising, AreCutBy, IsHeld, AreHeld, IsGone};
 
@@ -101,11 +104,11 @@ pub fn live_answers()
         (kind : FlushKind) →
         IsReached setting h
         → length (closing h now kind) ≡ length (live_closing (live_buffer h) now kind) }
-    ensures given { (setting : BufferSetting) (h : BufferHistory)
+    ensures given { (setting : BufferSetting) (h : BufferHistory) (wanted : Wanted)
         → setting.limits.retry_max < 2 ^ 64 →
         IsReached setting h
-        → option_map (carried_chunk_of h) (given h)
-        ≡ option_map (live_carried_chunk (live_buffer h)) (live_given (live_buffer h)) }
+        → option_map (carried_chunk_of h) (given_for h wanted)
+        ≡ option_map (live_carried_chunk (live_buffer h)) (live_given_for (live_buffer h) wanted) }
     ensures carried { (setting : BufferSetting) (h : BufferHistory) (number : ℕ)
         → IsReached setting h →
         live_carried (live_buffer h) number
@@ -139,6 +142,16 @@ pub fn live_given_is_least()
         IsLeastFree (live_looks b now) (live_given (live_looks b now)) }
     ensures only { (b : LiveBuffer) (now : ℕ) (answer : Option Chunk) → IsSound b →
         IsLeastFree (live_looks b now) answer → answer ≡ live_given (live_looks b now) }
+{}
+
+/// The same for what a worker wants: at each moment the chunk that it is given is free and one that
+/// it wants, and no such chunk has a lower number; where none is given, there is none.
+pub fn live_given_is_wanted()
+    ensures is { (b : LiveBuffer) (wanted : Wanted) (now : ℕ) → IsSound b →
+        IsLeastWanted (live_looks b now) wanted (live_given_for (live_looks b now) wanted) }
+    ensures only { (b : LiveBuffer) (wanted : Wanted) (now : ℕ) (answer : Option Chunk) →
+        IsSound b → IsLeastWanted (live_looks b now) wanted answer →
+        answer ≡ live_given_for (live_looks b now) wanted }
 {}
 
 /// Every live buffer that a run reaches is sound.
@@ -184,9 +197,9 @@ pub fn held_stays()
     ensures flushes { (b : LiveBuffer) (now : ℕ) (kind : FlushKind) (tag : List ℕ) (s : Span)
         (own : List (List ℕ)) → IsHeld b.chunks tag s own →
         IsHeld (live_flushes b now kind).chunks tag s own }
-    ensures takes { (b : LiveBuffer) (worker now : ℕ) (tag : List ℕ) (s : Span)
-        (own : List (List ℕ)) → IsHeld b.chunks tag s own →
-        IsHeld (live_takes b worker now).chunks tag s own }
+    ensures takes { (b : LiveBuffer) (worker : ℕ) (wanted : Wanted) (now : ℕ) (tag : List ℕ)
+        (s : Span) (own : List (List ℕ)) → IsHeld b.chunks tag s own →
+        IsHeld (live_takes b worker wanted now).chunks tag s own }
     ensures frees { (b : LiveBuffer) (number : ℕ) (loss : Option ℕ) (tag : List ℕ) (s : Span)
         (own : List (List ℕ)) → IsHeld b.chunks tag s own →
         IsHeld (live_frees b number loss).chunks tag s own }
@@ -199,8 +212,8 @@ pub fn held_stays()
         IsGone (live_enters b r now) n }
     ensures gone_flushes { (b : LiveBuffer) (now : ℕ) (kind : FlushKind) (n : ℕ) → IsGone b n →
         IsGone (live_flushes b now kind) n }
-    ensures gone_takes { (b : LiveBuffer) (worker now n : ℕ) → IsGone b n →
-        IsGone (live_takes b worker now) n }
+    ensures gone_takes { (b : LiveBuffer) (worker : ℕ) (wanted : Wanted) (now n : ℕ) → IsGone b n →
+        IsGone (live_takes b worker wanted now) n }
     ensures gone_frees { (b : LiveBuffer) (number : ℕ) (loss : Option ℕ) (n : ℕ) → IsGone b n →
         IsGone (live_frees b number loss) n }
     ensures gone_settles { (b : LiveBuffer) (number n : ℕ) → IsGone b n →

@@ -18,6 +18,7 @@ mod entry_slice;
 mod entry_slices;
 mod fault;
 mod flush;
+mod free_chunk;
 mod laws;
 mod limits;
 mod min_tree;
@@ -30,6 +31,7 @@ mod spans;
 mod tag_entry;
 mod tag_list;
 mod tags;
+mod wanted;
 mod write_slices;
 
 pub use body::Body;
@@ -38,14 +40,16 @@ pub use buffer::Buffer;
 pub use carried::Carried;
 pub use fault::AdmitError;
 pub use flush::FlushKind;
+pub use free_chunk::FreeChunk;
 pub use fwd_base::{Counts, Report, TagCount};
 pub use laws::{
-    given_is_least, held_stays, live_answers, live_follows, live_given_is_least, numbers_rise,
-    reached_is_sound, spans_are_held, tags_add_up,
+    given_is_least, held_stays, live_answers, live_follows, live_given_is_least,
+    live_given_is_wanted, numbers_rise, reached_is_sound, spans_are_held, tags_add_up,
 };
 pub use limits::BufferLimits;
 pub use send_cursor::SendCursor;
 pub use snapshot::Snapshot;
 pub use span::Span;
 pub use spans::Spans;
+pub use wanted::Wanted;
 pub use write_slices::{PIECE_LIMIT, WriteSlices};

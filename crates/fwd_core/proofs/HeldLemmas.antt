@@ -8,7 +8,8 @@ use Rattle.fwd_modes.specs.Requests.{Request}
 use Rattle.fwd_chunks.specs.declared.chunk.Chunk.{Chunk}
 use Rattle.fwd_chunks.specs.declared.flush.FlushKind.{FlushKind}
 use Rattle.fwd_chunks.specs.History.{CarriedChunk}
-use Rattle.fwd_chunks.specs.Live.{LiveBuffer, IsCarried, live_looks, live_enters, live_flushes, live_given, live_takes, live_carried_chunk, live_carried, live_settles, live_frees}
+use Rattle.fwd_chunks.specs.declared.wanted.Wanted.{Wanted}
+use Rattle.fwd_chunks.specs.Live.{LiveBuffer, IsCarried, live_looks, live_enters, live_flushes, live_given_for, live_takes, live_carried_chunk, live_carried, live_settles, live_frees}
 use Rattle.fwd_chunks.specs.Soundness.{IsSound}
 use Rattle.fwd_chunks.proofs.Taken.{carried-enters, carried-flushes, given-free, carried-takes, given-carried, carried-settles, carried-frees}
 use Rattle.fwd_model.specs.Layers.{Worker}
@@ -66,25 +67,26 @@ held-put b ws place x y own here same = record {
 -- ---- a worker takes a chunk
 
 -- no worker has the chunk that is given
-not-yet : (b : LiveBuffer) (now : ℕ) (chunk : Chunk) (ws : List (Worker LiveSession)) → IsSound b
-    → AreHeld b ws → live_given (live_looks b now) ≡ Some chunk
+not-yet : (b : LiveBuffer) (wanted : Wanted) (now : ℕ) (chunk : Chunk)
+    (ws : List (Worker LiveSession)) → IsSound b
+    → AreHeld b ws → live_given_for (live_looks b now) wanted ≡ Some chunk
     → times chunk.number (chunks_of ws) ≡ 0
-not-yet b now chunk ws sound own given =
+not-yet b wanted now chunk ws sound own given =
     times-none chunk.number (chunks_of ws)
     (all_same (IsCarried b) (λ c. c.number ≢ chunk.number) (chunks_of ws)
-    (λ c e same. none_some (sym (given-free b now chunk sound given) ∙ ap (live_carried b) (sym same) ∙ e))
+    (λ c e same. none_some (sym (given-free b wanted now chunk sound given) ∙ ap (live_carried b) (sym same) ∙ e))
     own.carried)
 
-pub held-takes : (b : LiveBuffer) (ws : List (Worker LiveSession)) (place worker now : ℕ)
-    (x y : Worker LiveSession) → IsSound b → AreHeld b ws → slice_get ws place ≡ Some x
+pub held-takes : (b : LiveBuffer) (ws : List (Worker LiveSession)) (place worker : ℕ)
+    (wanted : Wanted) (now : ℕ) (x y : Worker LiveSession) → IsSound b → AreHeld b ws → slice_get ws place ≡ Some x
     → x.taken ≡ None
-    → y ≡ record { taken = option_map (live_carried_chunk b) (live_given (live_looks b now)); session = x.session }
-    → AreHeld (live_takes b worker now) (set ws place y)
-held-takes b ws place worker now x y sound own here none takes =
-    subst (λ k. AreHeld d (set ws place k)) (sym takes) (by (live_given (live_looks b now)) refl)
+    → y ≡ record { taken = option_map (live_carried_chunk b) (live_given_for (live_looks b now) wanted); session = x.session }
+    → AreHeld (live_takes b worker wanted now) (set ws place y)
+held-takes b ws place worker wanted now x y sound own here none takes =
+    subst (λ k. AreHeld d (set ws place k)) (sym takes) (by (live_given_for (live_looks b now) wanted) refl)
   where
     d : LiveBuffer
-    d = live_takes b worker now
+    d = live_takes b worker wanted now
 
     with_taken : Option CarriedChunk → Worker LiveSession
     with_taken o = record { taken = o; session = x.session }
@@ -93,7 +95,7 @@ held-takes b ws place worker now x y sound own here none takes =
     had = ap (λ o. option_to_list o ++ chunks_in x.session) none
 
     stays : AllByRecursion (IsCarried d) (chunks_of ws)
-    stays = all_same (IsCarried b) (IsCarried d) (chunks_of ws) (λ c e. carried-takes b worker now c.number c sound e) own.carried
+    stays = all_same (IsCarried b) (IsCarried d) (chunks_of ws) (λ c e. carried-takes b worker wanted now c.number c sound e) own.carried
 
     his : AllByRecursion (IsCarried d) (chunks_in x.session)
     his = subst (AllByRecursion (IsCarried d)) had (all-at (IsCarried d) place ws x here stays)
@@ -101,14 +103,14 @@ held-takes b ws place worker now x y sound own here none takes =
     had-times : (n : ℕ) → times n (chunks_at x) ≡ times n (chunks_in x.session)
     had-times n = ap (times n) had
 
-    by : (o : Option Chunk) → live_given (live_looks b now) ≡ o
+    by : (o : Option Chunk) → live_given_for (live_looks b now) wanted ≡ o
         → AreHeld d (set ws place (with_taken (option_map (live_carried_chunk b) o)))
     by None e = record {
       carried = all-set (IsCarried d) place ws (with_taken None) stays his;
       apart = λ n. omega (arith, own.apart n, times-set n place ws x (with_taken None) here, had-times n);
     }
     by (Some chunk) e = record {
-      carried = all-set (IsCarried d) place ws (with_taken (Some c)) stays (given-carried b worker now chunk sound e, his);
+      carried = all-set (IsCarried d) place ws (with_taken (Some c)) stays (given-carried b worker wanted now chunk sound e, his);
       apart = λ n. at n (chunk.number == n) refl;
     }
       where
@@ -122,7 +124,7 @@ held-takes b ws place worker now x y sound own here none takes =
             → times n (chunks_of (set ws place (with_taken (Some c)))) ≤ 1
         at n true f =
             let same : chunk.number ≡ n = grind (arith, nat_tests, f) in
-            let before : times n (chunks_of ws) ≡ 0 = subst (λ k. times k (chunks_of ws) ≡ 0) same (not-yet b now chunk ws sound own e) in
+            let before : times n (chunks_of ws) ≡ 0 = subst (λ k. times k (chunks_of ws) ≡ 0) same (not-yet b wanted now chunk ws sound own e) in
             let more : times n (c ∷ cs) ≡ suc (times n cs) = ap (λ t. cond t (suc (times n cs)) (times n cs)) f in
             omega (arith, before, more, times-set n place ws x (with_taken (Some c)) here, had-times n)
         at n false f =

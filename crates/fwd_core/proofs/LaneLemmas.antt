@@ -5,6 +5,7 @@ use Rattle.std.specs.Prelude.{◌||◌, is_some, map, option_map, option_to_list
 use Rattle.std.specs.List.{AllByRecursion}
 use Rattle.fwd_chunks.specs.History.{CarriedChunk}
 use Rattle.fwd_chunks.specs.Live.{LiveBuffer, IsCarried}
+use Rattle.fwd_chunks.specs.declared.wanted.Wanted.{Wanted}
 use Rattle.fwd_model.specs.declared.answer.Answer.TheVariants as answer
 use Rattle.fwd_model.specs.declared.fault.Refusal.TheVariants.{NoSuch, NotNow}
 use Rattle.fwd_model.specs.Outcome.{Outcome, Stays, Goes, found, refuse_if, chunk_answer, ◌>>=◌, ◌>>◌}
@@ -28,12 +29,13 @@ pub read_same : {X : Type 0} (xs : List X) (i : ℕ) (x y : X) → slice_get xs 
 read_same xs i x y e f = same_Some _ _ (sym e ∙ f)
 
 -- a worker that may take takes
-pub take_is : (l : LiveLane) (w now : ℕ) (x : Worker LiveSession)
+pub take_is : (l : LiveLane) (w : ℕ) (wanted : Wanted) (now : ℕ) (x : Worker LiveSession)
     → slice_get l.workers w ≡ Some x → (is_some x.taken || is_full lives x.session) ≡ false
-    → take lives l w now ≡ Goes (chunk_answer (lane_gives l now)) (lane_takes l w x now)
-take_is l w now x here free =
-    ap (λ y. found y NoSuch >>= λ z. refuse_if (is_some z.taken || is_full lives z.session) NotNow >> Goes (chunk_answer (lane_gives l now)) (lane_takes l w z now)) here
-    ∙ ap (λ b. refuse_if b NotNow >> Goes (chunk_answer (lane_gives l now)) (lane_takes l w x now)) free
+    → take lives l w wanted now
+    ≡ Goes (chunk_answer (lane_gives l wanted now)) (lane_takes l w x wanted now)
+take_is l w wanted now x here free =
+    ap (λ y. found y NoSuch >>= λ z. refuse_if (is_some z.taken || is_full lives z.session) NotNow >> Goes (chunk_answer (lane_gives l wanted now)) (lane_takes l w z wanted now)) here
+    ∙ ap (λ b. refuse_if b NotNow >> Goes (chunk_answer (lane_gives l wanted now)) (lane_takes l w x wanted now)) free
 
 -- a worker that may take has no chunk that it did not load, and its session has room
 pub may_take : (taken : Option CarriedChunk) (full : Bool) → (is_some taken || full) ≡ false

@@ -50,7 +50,7 @@ use crate::lane_config::LaneConfig;
 use crate::returned_numbers::numbers_back;
 use crate::worker::Worker;
 use fwd_book::Receipt;
-use fwd_chunks::{AdmitError, Carried, Counts, FlushKind, Report};
+use fwd_chunks::{AdmitError, Carried, Counts, FlushKind, Report, Wanted};
 use fwd_model::{Answer, EndKind, Origin, OutputConfig, OwnedSalt, Refusal};
 use fwd_modes::Batch;
 use fwd_output::{Leaving, OutputState};
@@ -210,13 +210,19 @@ impl Lane {
         self.workers[place].up(alloc, &self.config, server, salt, now)
     }
 
-    /// A worker takes the least free chunk. On an error nothing has changed.
-    pub fn take(&mut self, alloc: Global, worker: u16, now: u64) -> Result<Answer, AllocError>
-        ensures answer { IfOk result (λ a. a ≡ answer_of (take lives self.old worker now)) }
-        ensures sure { is_free (answer_of (take lives self.old worker now)) ≡ true
+    /// A worker takes the least free chunk of those that it wants. On an error nothing has changed.
+    pub fn take(
+        &mut self,
+        alloc: Global,
+        worker: u16,
+        wanted: Wanted,
+        now: u64,
+    ) -> Result<Answer, AllocError>
+        ensures answer { IfOk result (λ a. a ≡ answer_of (take lives self.old worker wanted now)) }
+        ensures sure { is_free (answer_of (take lives self.old worker wanted now)) ≡ true
             → IsOk result }
         ensures next { OnOk result (self.new
-            ≡ state_of self.old (take lives self.old worker now)) }
+            ≡ state_of self.old (take lives self.old worker wanted now)) }
         ensures err { OnErr result (self.new ≡ self.old) }
     {
         let place = usize::from(worker);
@@ -227,7 +233,7 @@ impl Lane {
         if self.workers[place].is_full() {
             return Ok(Answer::Refused(Refusal::NotNow));
         }
-        let found = self.output.take(alloc, worker, now)?;
+        let found = self.output.take_wanted(alloc, worker, wanted, now)?;
         let answer = told_of(&found);
         self.workers[place].set_taken(found);
         Ok(answer)

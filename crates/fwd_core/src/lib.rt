@@ -13,7 +13,7 @@ mod worker;
 pub use fwd_chunks::{AdmitError, BufferLimits, Carried, Counts};
 pub use fwd_model::{
     AckTerms, Answer, Config, EndKind, Event, FlushKind, Numbers, Origin, OutputConfig, OwnedSalt,
-    Refusal, SessionFault, SourceFault, unrelated_events_commute,
+    Refusal, SessionFault, SourceFault, Wanted, unrelated_events_commute,
 };
 pub use fwd_output::{Leaving, OutputState, leave};
 pub use relay::Relay;

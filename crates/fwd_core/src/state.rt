@@ -174,7 +174,8 @@ impl State {
                 output,
                 worker,
                 now,
-            } => self.take(alloc, *output, *worker, *now),
+                wanted,
+            } => self.take(alloc, *output, *worker, *now, *wanted),
             Event::Load {
                 output,
                 worker,

@@ -5,6 +5,7 @@ use Rattle.fwd_modes.specs.Requests.{Request}
 use Rattle.fwd_modes.specs.declared.origin.Origin.{Origin}
 use Rattle.fwd_match.specs.Patterns.{route}
 use Rattle.fwd_source.specs.History.{SourceHistory, waiting}
+use Rattle.fwd_chunks.specs.declared.wanted.Wanted.{Wanted}
 use Rattle.fwd_chunks.specs.declared.fault.AdmitError.{AdmitError}
 use Rattle.fwd_chunks.specs.declared.fault.AdmitError.TheVariants.{Full, NumbersSpent, Memory}
 use Rattle.fwd_chunks.specs.declared.flush.FlushKind.{FlushKind}
@@ -26,7 +27,7 @@ use Rattle.fwd_model.proofs.Settling.{loads_of, carries-push_same, carries-push_
 use Rattle.fwd_model.proofs.Follows.Admits.{worker_stays}
 use Rattle.fwd_model.proofs.Follows.Ends.{Backs, gives-by, gives_all, others_have as ends-others}
 use Rattle.fwd_chunks.specs.Cells.{Carry}
-use Rattle.fwd_chunks.specs.History.{CarriedChunk, carried_chunk_of, given, looks, carry_more}
+use Rattle.fwd_chunks.specs.History.{CarriedChunk, carried_chunk_of, given_for, looks, carry_more}
 use Rattle.fwd_model.specs.Layers.{Worker}
 use Rattle.fwd_session.specs.History.{SessionHistory}
 use Rattle.std.proofs.lemmas.Bool.Decides.{nat_tests}
@@ -94,9 +95,10 @@ module _ (w : ℕ) (l : Lane) (own : IsSaneLane l) where
   forget id =
       to {a = answer.Forgot (histories.owed l id)} (same-keeps w l.output (histories.forgets l id).output refl)
 
-  takes-keep : (v now : ℕ) (x : Worker SessionHistory) → Kept (histories.takes l v x now)
-  takes-keep v now x acks a b had has =
-      elim (same_or v w) [ inl e ↦ mine e (given (looks l.output.buffer now)) | inr e ↦ others e (given (looks l.output.buffer now)) ]
+  takes-keep : (v : ℕ) (wanted : Wanted) (now : ℕ) (x : Worker SessionHistory)
+      → Kept (histories.takes l v x wanted now)
+  takes-keep v wanted now x acks a b had has =
+      elim (same_or v w) [ inl e ↦ mine e (given_for (looks l.output.buffer now) wanted) | inr e ↦ others e (given_for (looks l.output.buffer now) wanted) ]
     where
       held : Option ℕ → List CarriedChunk
       held found =
@@ -115,11 +117,12 @@ module _ (w : ℕ) (l : Lane) (own : IsSaneLane l) where
       others e (Some k) =
           ap (λ cs. has_chunk a (loads_of l.output.buffer cs)) (carries-push_other v w k l.output.buffer.carried e) ∙ had
 
-  take : (v now : ℕ) → Onward (λ a m. Kept m) (steps.take histories l v now)
-  take v now =
+  take : (v : ℕ) (wanted : Wanted) (now : ℕ)
+      → Onward (λ a m. Kept m) (steps.take histories l v wanted now)
+  take v wanted now =
       past_found NoSuch {x = histories.worker_at l v} (λ x at.
-      past NotNow {b = is_some x.taken || steps.is_full histories x.session} (λ none. to {a = chunk_answer (histories.given l now)}
-      (takes-keep v now x)))
+      past NotNow {b = is_some x.taken || steps.is_full histories x.session} (λ none. to {a = chunk_answer (histories.given l wanted now)}
+      (takes-keep v wanted now x)))
 
   settle : (v : ℕ) → Onward (λ a m. Kept m) (steps.settle histories l v)
   settle v =
@@ -285,9 +288,9 @@ kept-all w h sane (event.Choose p v now) o =
     at-this w h sane (event.Choose p v now) o p
     (next w h sane p (step histories h (event.Choose p v now)) (at-lane w h sane p (λ l. steps.choose histories l v now) (λ l own. choose w l own v now)))
     (λ other. one-more (eqb p o) other)
-kept-all w h sane (event.Take p v now) o =
-    at-this w h sane (event.Take p v now) o p
-    (next w h sane p (step histories h (event.Take p v now)) (at-lane w h sane p (λ l. steps.take histories l v now) (λ l own. take w l own v now)))
+kept-all w h sane (event.Take p v now wanted) o =
+    at-this w h sane (event.Take p v now wanted) o p
+    (next w h sane p (step histories h (event.Take p v now wanted)) (at-lane w h sane p (λ l. steps.take histories l v wanted now) (λ l own. take w l own v wanted now)))
     (λ other. one-more (eqb p o) other)
 kept-all w h sane (event.Settle p v) o =
     at-this w h sane (event.Settle p v) o p

@@ -7,6 +7,7 @@ use Rattle.fwd_modes.specs.Requests.{Request}
 use Rattle.fwd_modes.specs.declared.origin.Origin.{Origin}
 use Rattle.fwd_match.specs.Patterns.{route}
 use Rattle.fwd_source.specs.History.{SourceHistory, waiting}
+use Rattle.fwd_chunks.specs.declared.wanted.Wanted.{Wanted}
 use Rattle.fwd_chunks.specs.declared.fault.AdmitError.{AdmitError}
 use Rattle.fwd_chunks.specs.declared.fault.AdmitError.TheVariants.{Full, NumbersSpent, Memory}
 use Rattle.fwd_chunks.specs.declared.flush.FlushKind.{FlushKind}
@@ -68,11 +69,12 @@ choose l w now =
     past_found NoSuch {x = histories.worker_at l w} (λ x at. to {a = answer.Chose (histories.chosen l w now)}
     (own-move l (Look now) (histories.watches l now) refl refl))
 
-take : (l : Lane) (w now : ℕ) → Onward (λ a m. LaneMoves l m) (steps.take histories l w now)
-take l w now =
+take : (l : Lane) (w : ℕ) (wanted : Wanted) (now : ℕ)
+    → Onward (λ a m. LaneMoves l m) (steps.take histories l w wanted now)
+take l w wanted now =
     past_found NoSuch {x = histories.worker_at l w} (λ x at.
-    past NotNow {b = is_some x.taken || steps.is_full histories x.session} (λ none. to {a = chunk_answer (histories.given l now)}
-    (own-move l (Take w now) (histories.takes l w x now) refl refl)))
+    past NotNow {b = is_some x.taken || steps.is_full histories x.session} (λ none. to {a = chunk_answer (histories.given l wanted now)}
+    (own-move l (Take w wanted now) (histories.takes l w x wanted now) refl refl)))
 
 settle : (l : Lane) (w : ℕ) → Onward (λ a m. LaneMoves l m) (steps.settle histories l w)
 settle l w =
@@ -205,9 +207,9 @@ moved h (event.Choose p w now) o sane none =
     at-this h (event.Choose p w now) o p sane
     (next h p (step histories h (event.Choose p w now)) (at-lane h p (λ l. steps.choose histories l w now) (λ l. choose l w now)))
     (λ other. one-more (eqb p o) other)
-moved h (event.Take p w now) o sane none =
-    at-this h (event.Take p w now) o p sane
-    (next h p (step histories h (event.Take p w now)) (at-lane h p (λ l. steps.take histories l w now) (λ l. take l w now)))
+moved h (event.Take p w now wanted) o sane none =
+    at-this h (event.Take p w now wanted) o p sane
+    (next h p (step histories h (event.Take p w now wanted)) (at-lane h p (λ l. steps.take histories l w wanted now) (λ l. take l w wanted now)))
     (λ other. one-more (eqb p o) other)
 moved h (event.Settle p w) o sane none =
     at-this h (event.Settle p w) o p sane

@@ -49,7 +49,7 @@ unmarked-next (Enter origin r now) p =
     (unmarked-push p.book.admissions (record { request = book.entered_as r origin (Rattle.fwd_chunks.specs.History.spans_of p.buffer origin r now); fate = Untold }))
 unmarked-next (Flush now kind) p = refl
 unmarked-next (Look now) p = refl
-unmarked-next (Take worker now) p = refl
+unmarked-next (Take worker wanted now) p = refl
 unmarked-next (Settle e) p = refl
 unmarked-next (End back server now) p = refl
 unmarked-next (PutBack number) p = refl

@@ -3,9 +3,10 @@ use Rattle.std.proofs.Common.{◌≡◌, ℕ, Bool, true, false, cond, eqb, List
 use Rattle.std.specs.Prelude.{map, filter, not, drop, length, ◌&&◌, ◌||◌}
 use Rattle.fwd_modes.specs.Requests.{Request}
 use Rattle.fwd_modes.specs.declared.origin.Origin.{Origin}
+use Rattle.fwd_chunks.specs.declared.wanted.Wanted.{Wanted}
 use Rattle.fwd_chunks.specs.Cells.{Carry, has_number, is_carried, losses_of, numbers_of, without}
 use Rattle.fwd_chunks.specs.History as buffer
-use Rattle.fwd_chunks.specs.History.{BufferHistory, adds, adds_all, carry_more, enters, frees, given, is_free, is_over, least, looks, runs_after, takes}
+use Rattle.fwd_chunks.specs.History.{BufferHistory, adds, adds_all, carry_more, enters, frees, given, asked_for, given_for, is_free, is_over, least, looks, runs_after, takes}
 use Rattle.fwd_book.specs.History as book
 use Rattle.fwd_model.specs.Outputs.{OutputHistory, Return, gets_back, moment_if}
 use Rattle.fwd_output.specs.OutputEvents.{OutputEvent, output_next}
@@ -93,11 +94,12 @@ backs-both (r ∷ back) a b now same =
 nameless-twice : (b : BufferHistory) → AreAlike (nameless_buffer b) b
 nameless-twice b = ap (λ cs. with_carried cs b) (twice b.carried)
 
-takes-alike : (b : BufferHistory) (worker now : ℕ)
-    → nameless_buffer (takes (nameless_buffer b) worker now) ≡ nameless_buffer (takes b worker now)
-takes-alike b worker now =
-    ap (λ found. with_carried (unnamed (carry_more worker found (unnamed b.carried))) (looks b now)) (given-alike (looks b now))
-    ∙ ap (λ cs. with_carried cs (looks b now)) (more-alike worker (given (looks b now)) b.carried)
+takes-alike : (b : BufferHistory) (worker : ℕ) (wanted : Wanted) (now : ℕ)
+    → nameless_buffer (takes (nameless_buffer b) worker wanted now)
+    ≡ nameless_buffer (takes b worker wanted now)
+takes-alike b worker wanted now =
+    ap (λ found. with_carried (unnamed (carry_more worker found (unnamed b.carried))) (looks b now)) (given-alike (asked_for (looks b now) wanted))
+    ∙ ap (λ cs. with_carried cs (looks b now)) (more-alike worker (given_for (looks b now) wanted) b.carried)
 
 enters-alike : (b : BufferHistory) (origin : Origin) (r : Request) (now : ℕ)
     → enters (nameless_buffer b) origin r now ≡ with_carried (unnamed b.carried) (enters b origin r now)
@@ -125,7 +127,7 @@ alike-next (Flush now kind) p =
     ap (λ cs. with_buffer p (with_carried cs (buffer.flushes p.buffer now kind))) (twice p.buffer.carried)
 alike-next (Look now) p =
     ap (λ cs. with_buffer (output_next p (Look now)) (with_carried cs (looks p.buffer now))) (twice p.buffer.carried)
-alike-next (Take worker now) p = ap (with_buffer p) (takes-alike p.buffer worker now)
+alike-next (Take worker wanted now) p = ap (with_buffer p) (takes-alike p.buffer worker wanted now)
 alike-next (Settle e) p =
     ap (λ cs. with_buffer (output_next p (Settle e)) (with_carried cs (buffer.settles p.buffer e.number))) (without-alike e.number p.buffer.carried)
 alike-next (End back server now) p =
@@ -146,10 +148,10 @@ next-alike own p q same =
     ∙ alike-next own q
 
 -- a chunk is taken alike by any worker
-pub any-worker : (p : OutputHistory) (v w now : ℕ)
-    → nameless (output_next p (Take v now)) ≡ nameless (output_next p (Take w now))
-any-worker p v w now =
-    ap (λ cs. with_buffer p (with_carried cs (takes p.buffer v now))) (whoever (given (looks p.buffer now)) p.buffer.carried)
+pub any-worker : (p : OutputHistory) (v w : ℕ) (wanted : Wanted) (now : ℕ)
+    → nameless (output_next p (Take v wanted now)) ≡ nameless (output_next p (Take w wanted now))
+any-worker p v w wanted now =
+    ap (λ cs. with_buffer p (with_carried cs (takes p.buffer v wanted now))) (whoever (given_for (looks p.buffer now) wanted) p.buffer.carried)
   where
     whoever : (found : Option ℕ) (cs : List Carry)
         → unnamed (carry_more v found cs) ≡ unnamed (carry_more w found cs)

@@ -7,6 +7,7 @@ use Rattle.fwd_modes.specs.Requests.{Request}
 use Rattle.fwd_modes.specs.declared.origin.Origin.{Origin}
 use Rattle.fwd_match.specs.Patterns.{route}
 use Rattle.fwd_source.specs.History.{SourceHistory, waiting}
+use Rattle.fwd_chunks.specs.declared.wanted.Wanted.{Wanted}
 use Rattle.fwd_chunks.specs.declared.fault.AdmitError.{AdmitError}
 use Rattle.fwd_chunks.specs.History as buffer
 use Rattle.fwd_chunks.specs.History.{BufferHistory, CarriedChunk}
@@ -74,13 +75,13 @@ module _ (h : History) (o : ℕ) (l : Lane) (here : slice_get h.lanes o ≡ Some
 
 -- ---- an output's events
 
-take-goes : (l : Lane) (w now : ℕ) (m : MayTake l w)
-    → steps.take histories l w now
-    ≡ Goes (chunk_answer (histories.given l now)) (histories.takes l w m.worker now)
-take-goes l w now m =
+take-goes : (l : Lane) (w : ℕ) (wanted : Wanted) (now : ℕ) (m : MayTake l w)
+    → steps.take histories l w wanted now
+    ≡ Goes (chunk_answer (histories.given l wanted now)) (histories.takes l w m.worker wanted now)
+take-goes l w wanted now m =
     past-found NoSuch (histories.worker_at l w) m.worker (λ x. refuse_if (is_some x.taken || steps.is_full histories x.session) NotNow
-    >> Goes (chunk_answer (histories.given l now)) (histories.takes l w x now)) m.stands
-    ∙ past-check NotNow (is_some m.worker.taken || steps.is_full histories m.worker.session) (Goes (chunk_answer (histories.given l now)) (histories.takes l w m.worker now)) (λ i. m.free i || m.room i)
+    >> Goes (chunk_answer (histories.given l wanted now)) (histories.takes l w x wanted now)) m.stands
+    ∙ past-check NotNow (is_some m.worker.taken || steps.is_full histories m.worker.session) (Goes (chunk_answer (histories.given l wanted now)) (histories.takes l w m.worker wanted now)) (λ i. m.free i || m.room i)
 
 settle-goes : (l : Lane) (w : ℕ) (e : ServerAck) (m : HasAcked l w e)
     → steps.settle histories l w
@@ -167,9 +168,9 @@ own-is h l o (Flush now kind) e here asks =
 own-is h l o (Look now) e here (w, x, stands, is) =
     ap (λ f. output_at (after histories h (f ∷ [])) o) is
     ∙ lane-step h o l here (λ l. steps.choose histories l w now) (answer.Chose (histories.chosen l w now)) (histories.watches l now) (choose-goes l w now x stands)
-own-is h l o (Take w now) e here (m, is) =
+own-is h l o (Take w wanted now) e here (m, is) =
     ap (λ f. output_at (after histories h (f ∷ [])) o) is
-    ∙ lane-step h o l here (λ l. steps.take histories l w now) (chunk_answer (histories.given l now)) (histories.takes l w m.worker now) (take-goes l w now m)
+    ∙ lane-step h o l here (λ l. steps.take histories l w wanted now) (chunk_answer (histories.given l wanted now)) (histories.takes l w m.worker wanted now) (take-goes l w wanted now m)
 own-is h l o (Settle its) e here (w, m, is) =
     ap (λ f. output_at (after histories h (f ∷ [])) o) is
     ∙ lane-step h o l here (λ l. steps.settle histories l w) (answer.Settled (histories.entries_at l m.acked.chunk.number)) (histories.settles l w (steps.with_session m.worker (unloads m.session)) (evidence_of m.session.setup.server m.acked)) (settle-goes l w its m)

@@ -122,7 +122,7 @@ Asks h l o (Flush now kind) e = e ≡ event.Flush o now kind
 Asks h l o (Look now) e =
     (w : ℕ) × (worker : Worker SessionHistory) × (histories.worker_at l w ≡ Some worker)
     × (e ≡ event.Choose o w now)
-Asks h l o (Take w now) e = MayTake l w × (e ≡ event.Take o w now)
+Asks h l o (Take w wanted now) e = MayTake l w × (e ≡ event.Take o w now wanted)
 Asks h l o (Settle its) e = (w : ℕ) × HasAcked l w its × (e ≡ event.Settle o w)
 Asks h l o (End back server now) e =
     (w : ℕ) × (kind : EndKind) × MayEnd l w kind back server × (e ≡ event.End o w kind now)

@@ -3,6 +3,7 @@
 ghost use Rattle.std.specs.Prelude.{◌≡◌, ◌++◌, ℕ, List, [], ◌∷◌, Some, true, false, slice_get};
 ghost use Rattle.std.specs.List.{list_any};
 ghost use Rattle.fwd_modes.specs.declared.origin.Origin.{Origin};
+ghost use Rattle.fwd_chunks.specs.declared.wanted.Wanted.{Wanted};
 ghost use Rattle.fwd_book.specs.History.{untold};
 ghost use Rattle.fwd_book.specs.Receipts.{Receipt, receipts};
 ghost use Rattle.fwd_model.specs.declared.config.Config.{Config};
@@ -71,8 +72,9 @@ pub fn nothing_is_given_back_alone()
 pub fn any_worker_will_do()
     ensures next { (own : OutputEvent) (p q : OutputHistory) → nameless p ≡ nameless q →
         nameless (output_next p own) ≡ nameless (output_next q own) }
-    ensures taker { (p : OutputHistory) (v w now : ℕ) →
-        nameless (output_next p (Take v now)) ≡ nameless (output_next p (Take w now)) }
+    ensures taker { (p : OutputHistory) (v w : ℕ) (wanted : Wanted) (now : ℕ) →
+        nameless (output_next p (Take v wanted now))
+        ≡ nameless (output_next p (Take w wanted now)) }
 {}
 
 /// Each list of the relay's events carries own events of each output, where it tells nothing of

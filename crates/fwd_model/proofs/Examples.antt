@@ -13,6 +13,7 @@ use Rattle.fwd_model.specs.declared.answer.Answer.TheVariants as answer
 use Rattle.fwd_model.specs.declared.event.Event.{Event}
 use Rattle.fwd_model.specs.declared.event.Event.TheVariants as event
 use Rattle.fwd_chunks.specs.declared.flush.FlushKind.TheVariants.{All, Due}
+use Rattle.fwd_chunks.specs.declared.wanted.Wanted.TheVariants.{Any}
 use Rattle.fwd_chunks.specs.declared.limits.BufferLimits.{BufferLimits}
 use Rattle.fwd_chunks.specs.History.{adds}
 use Rattle.fwd_chunks.specs.Waits.{wait_after}
@@ -103,11 +104,11 @@ events =
     event.Flush 0 999 Due ∷
     event.Flush 0 1000 Due ∷
     event.Up 0 0 0 [] 1000 ∷
-    event.Take 0 0 1000 ∷
-    event.Take 0 0 1000 ∷
-    event.Take 0 1 1000 ∷
+    event.Take 0 0 1000 Any ∷
+    event.Take 0 0 1000 Any ∷
+    event.Take 0 1 1000 Any ∷
     event.Load 0 1 1000 ∷
-    event.Take 0 2 1000 ∷
+    event.Take 0 2 1000 Any ∷
     event.Accept 1 (replicate 16 0) (replicate 16 0) ∷
     event.Admit 1 0 0 ∷ []
 
@@ -153,7 +154,7 @@ whole_way =
     event.Admit 1 0 0 ∷
     event.Flush 0 0 All ∷
     event.Up 0 0 0 [] 0 ∷
-    event.Take 0 0 0 ∷
+    event.Take 0 0 0 Any ∷
     event.Load 0 0 0 ∷
     event.Wrote 0 0 47 ∷
     event.Wrote 0 0 46 ∷
@@ -176,7 +177,7 @@ until_sent =
     event.Admit 1 0 0 ∷
     event.Flush 0 0 All ∷
     event.Up 0 0 0 [] 0 ∷
-    event.Take 0 0 0 ∷
+    event.Take 0 0 0 Any ∷
     event.Load 0 0 0 ∷
     event.Wrote 0 0 46 ∷ []
 
@@ -324,8 +325,8 @@ until_taken =
     event.Piece 1 three_entries ∷
     event.Admit 1 0 0 ∷
     event.Flush 0 0 All ∷
-    event.Take 0 0 0 ∷
-    event.Take 0 1 0 ∷ []
+    event.Take 0 0 0 Any ∷
+    event.Take 0 1 0 Any ∷ []
 
 split_in_two : answers histories (opening (limited 6 100000)) until_taken ≡
     answer.Accepted [] ∷
@@ -381,7 +382,7 @@ joined_in_one : answers histories (opening settings) (
     event.Admit 1 0 0 ∷
     event.Admit 2 0 0 ∷
     event.Flush 0 0 All ∷
-    event.Take 0 0 0 ∷
+    event.Take 0 0 0 Any ∷
     event.Up 0 0 0 [] 0 ∷
     event.Load 0 0 0 ∷
     event.Wrote 0 0 49 ∷
@@ -469,9 +470,9 @@ lying_server : answers histories (after histories (opening settings) until_sent)
     event.End 0 0 Kept 2000 ∷
     event.Choose 0 0 2499 ∷
     event.Up 0 0 1 [] 2499 ∷
-    event.Take 0 0 2499 ∷
+    event.Take 0 0 2499 Any ∷
     event.Choose 0 0 2500 ∷
-    event.Take 0 0 2500 ∷ []
+    event.Take 0 0 2500 Any ∷ []
     ) ≡
     answer.SessionFaulted WrongAck ∷
     answer.Refused NotUp ∷
@@ -492,9 +493,9 @@ late_server : answers histories (after histories (opening settings) until_sent) 
     event.Late 0 0 10000 ∷
     event.Late 0 0 10000 ∷
     event.End 0 0 Lost 10000 ∷
-    event.Take 0 1 10500 ∷
+    event.Take 0 1 10500 Any ∷
     event.End 0 1 Kept 10500 ∷
-    event.Take 0 1 10500 ∷ []
+    event.Take 0 1 10500 Any ∷ []
     ) ≡
     answer.Late false ∷
     answer.Late true ∷
@@ -517,12 +518,12 @@ until_both_sent =
     event.Flush 0 0 All ∷
     event.Up 0 0 0 [] 0 ∷
     event.Load 0 0 0 ∷
-    event.Take 0 0 0 ∷
-    event.Take 0 0 0 ∷
+    event.Take 0 0 0 Any ∷
+    event.Take 0 0 0 Any ∷
     event.Load 0 0 0 ∷
-    event.Take 0 0 0 ∷
+    event.Take 0 0 0 Any ∷
     event.Load 0 0 0 ∷
-    event.Take 0 0 0 ∷
+    event.Take 0 0 0 Any ∷
     event.Load 0 0 0 ∷
     event.Wrote 0 0 91 ∷ []
 
@@ -552,16 +553,16 @@ in_any_order : answers histories (after histories (opening (waiting_so two_at_on
     event.Wrote 0 0 1 ∷
     event.Heard 0 0 (reply_to 103) ∷
     event.End 0 0 Kept 0 ∷
-    event.Take 0 0 0 ∷
+    event.Take 0 0 0 Any ∷
     event.Settle 0 0 ∷
     event.Settle 0 0 ∷
-    event.Take 0 0 0 ∷
+    event.Take 0 0 0 Any ∷
     event.Heard 0 0 (reply_to 81) ∷
     event.Settle 0 0 ∷
     event.Collect 1 0 ∷
     event.End 0 0 Kept 0 ∷
     event.Choose 0 0 0 ∷
-    event.Take 0 1 0 ∷ []
+    event.Take 0 1 0 Any ∷ []
     ) ≡
     answer.Done ∷
     answer.Acked [] ∷
@@ -602,9 +603,9 @@ too_early : answers histories (after histories (opening (waiting_so two_at_once 
     event.Settle 0 0 ∷
     event.End 0 0 Kept 0 ∷
     event.Choose 0 0 0 ∷
-    event.Take 0 1 0 ∷
+    event.Take 0 1 0 Any ∷
     event.End 0 1 Kept 0 ∷
-    event.Take 0 1 500 ∷ []
+    event.Take 0 1 500 Any ∷ []
     ) ≡
     answer.SessionFaulted EarlyAck ∷
     answer.Refused NotNow ∷
@@ -627,7 +628,7 @@ two_chunks =
     event.Piece 2 message ∷
     event.Admit 1 0 0 ∷
     event.Flush 0 0 All ∷
-    event.Take 0 0 0 ∷
+    event.Take 0 0 0 Any ∷
     event.Up 0 0 0 [] 0 ∷
     event.Admit 2 0 0 ∷ []
 
@@ -663,7 +664,7 @@ accepted_and_told = (refl, refl, refl)
 
 -- what closes a chunk and what takes one name one output, and their order matters
 abbrev take : Event
-take = event.Take 0 1 0
+take = event.Take 0 1 0 Any
 
 flushed_and_taken : (are_unrelated flush take ≡ false)
     × (then_answered (flush ∷ take ∷ []) ≡ answer.Closed 1 ∷ answer.Took 2 1 ∷ [])

@@ -24,6 +24,7 @@ use Rattle.fwd_source.proofs.Following.{heard, hears-live, hears-sane, gives-liv
 use Rattle.fwd_chunks.specs.declared.fault.AdmitError.{AdmitError}
 use Rattle.fwd_chunks.specs.declared.fault.AdmitError.TheVariants.{Full, NumbersSpent, Memory}
 use Rattle.fwd_chunks.specs.declared.flush.FlushKind.{FlushKind}
+use Rattle.fwd_chunks.specs.declared.wanted.Wanted.{Wanted}
 use Rattle.fwd_chunks.specs.History.{BufferHistory, CarriedChunk, counts as buffer_counts}
 use Rattle.fwd_chunks.specs.Live.{live_counts}
 use Rattle.fwd_chunks.proofs.Follows as buffer
@@ -355,18 +356,18 @@ no_chunk : (c : Option CarriedChunk) → is_some c ≡ false → c ≡ None
 no_chunk None e = refl
 no_chunk (Some c) e = absurd cc
 
-take : (l : Lane) (w now : ℕ) → IsSaneLane l
-    → Agrees live_lane IsSaneLane (steps.take histories l w now)
-    (steps.take lives (live_lane l) w now)
-take l w now own =
+take : (l : Lane) (w : ℕ) (wanted : Wanted) (now : ℕ) → IsSaneLane l
+    → Agrees live_lane IsSaneLane (steps.take histories l w wanted now)
+    (steps.take lives (live_lane l) w wanted now)
+take l w wanted now own =
     sought _ _ (worker_here w l) (λ x e.
     checked _ (ap (λ b. is_some x.taken || b) (full_same x.session)) (λ none.
     let at = worker_is l w x e in
     let free = taken_is l w x at ∙ no_chunk x.taken (or_left (is_some x.taken) (steps.is_full histories x.session) none) in
     let room = or_right (is_some x.taken) (steps.is_full histories x.session) none in
-    goes (ap chunk_answer (given-same l now own)) (
-      takes-live l w now x.session at.here free room own ∙ ap (λ y. lives.takes (live_lane l) w (worker_map live_session y) now) at.is,
-      takes-sane l w now x.session at.here free room own,
+    goes (ap chunk_answer (given-same l wanted now own)) (
+      takes-live l w wanted now x.session at.here free room own ∙ ap (λ y. lives.takes (live_lane l) w (worker_map live_session y) wanted now) at.is,
+      takes-sane l w wanted now x.session at.here free room own,
     )))
 
 down_here : (s : SessionHistory) → (live_session s).down ≡ s.down
@@ -551,7 +552,7 @@ event_agrees h (event.Up o w server salt now) sane = at_lane h sane o _ (λ l. s
     (λ l own. subst (λ c. Agrees live_lane IsSaneLane (steps.at_worker histories l w (steps.up histories l.config server salt now)) (steps.at_worker lives (live_lane l) w (steps.up lives c server salt now))) (sym (config_here l))
     (at_worker l w _ (steps.up lives l.config server salt now) own (λ x e. up l w l.config server salt now x own refl e)))
 event_agrees h (event.Choose o w now) sane = at_lane h sane o _ (λ l. steps.choose lives l w now) (λ l own. choose l w now own)
-event_agrees h (event.Take o w now) sane = at_lane h sane o _ (λ l. steps.take lives l w now) (λ l own. take l w now own)
+event_agrees h (event.Take o w now wanted) sane = at_lane h sane o _ (λ l. steps.take lives l w wanted now) (λ l own. take l w wanted now own)
 event_agrees h (event.Load o w now) sane = at_lane h sane o _ (λ l. steps.at_worker lives l w (steps.load lives now)) (λ l own. at_worker l w _ (steps.load lives now) own (λ x e. load now l w x own e))
 event_agrees h (event.Wrote o w count) sane =
     at_lane h sane o _ (λ l. steps.at_worker lives l w (λ x. steps.at_session lives x (steps.wrote lives count)))

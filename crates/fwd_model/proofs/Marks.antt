@@ -12,6 +12,7 @@ use Rattle.fwd_model.specs.declared.event.Event.TheVariants as event
 use Rattle.fwd_chunks.specs.declared.fault.AdmitError.{AdmitError}
 use Rattle.fwd_chunks.specs.declared.fault.AdmitError.TheVariants.{Full, NumbersSpent, Memory}
 use Rattle.fwd_chunks.specs.declared.flush.FlushKind.{FlushKind}
+use Rattle.fwd_chunks.specs.declared.wanted.Wanted.{Wanted}
 use Rattle.fwd_chunks.specs.History.{spans_of}
 use Rattle.fwd_model.specs.declared.answer.Answer.{Answer}
 use Rattle.fwd_model.specs.declared.answer.Answer.TheVariants as answer
@@ -165,10 +166,10 @@ module _ (config : Config) (es : List Event) (e : Event) (m : Marked config es (
       (steps.flush histories l now kind)
   flushed_same l now kind = to refl
 
-  taken_same : (l : Lane) (w now : ℕ)
+  taken_same : (l : Lane) (w : ℕ) (wanted : Wanted) (now : ℕ)
       → Onward (λ a x. x.output.book.admissions ≡ l.output.book.admissions)
-      (steps.take histories l w now)
-  taken_same l w now = past_found NoSuch {x = histories.worker_at l w} (λ x at. past NotNow {b = is_some x.taken || steps.is_full histories x.session} (λ none. to {a = chunk_answer (histories.given l now)} refl))
+      (steps.take histories l w wanted now)
+  taken_same l w wanted now = past_found NoSuch {x = histories.worker_at l w} (λ x at. past NotNow {b = is_some x.taken || steps.is_full histories x.session} (λ none. to {a = chunk_answer (histories.given l wanted now)} refl))
 
   settled_same : (l : Lane) (w : ℕ)
       → Onward (λ a x. x.output.book.admissions ≡ l.output.book.admissions)
@@ -295,7 +296,7 @@ event_on config es (event.Admit id o now) m = admit_on config es (event.Admit id
 event_on config es (event.Flush o now kind) m = at_lane_on config es (event.Flush o now kind) m o (λ l. steps.flush histories l now kind) (λ l. flushed_same config es (event.Flush o now kind) m l now kind)
 event_on config es (event.Up o w server salt now) m = at_lane_on config es (event.Up o w server salt now) m o _ (λ l. at_worker_on config es (event.Up o w server salt now) m l w (steps.up histories l.config server salt now))
 event_on config es (event.Choose o w now) m = at_lane_on config es (event.Choose o w now) m o (λ l. steps.choose histories l w now) (λ l. chosen_same config es (event.Choose o w now) m l w now)
-event_on config es (event.Take o w now) m = at_lane_on config es (event.Take o w now) m o (λ l. steps.take histories l w now) (λ l. taken_same config es (event.Take o w now) m l w now)
+event_on config es (event.Take o w now wanted) m = at_lane_on config es (event.Take o w now wanted) m o (λ l. steps.take histories l w wanted now) (λ l. taken_same config es (event.Take o w now wanted) m l w wanted now)
 event_on config es (event.Load o w now) m = at_lane_on config es (event.Load o w now) m o _ (λ l. at_worker_on config es (event.Load o w now) m l w (steps.load histories now))
 event_on config es (event.Wrote o w count) m = at_lane_on config es (event.Wrote o w count) m o _ (λ l. at_worker_on config es (event.Wrote o w count) m l w (λ x. steps.at_session histories x (steps.wrote histories count)))
 event_on config es (event.Heard o w bytes) m = at_lane_on config es (event.Heard o w bytes) m o _ (λ l. at_worker_on config es (event.Heard o w bytes) m l w (λ x. steps.at_session histories x (steps.heard histories bytes)))

@@ -7,6 +7,7 @@ use Rattle.fwd_match.specs.Patterns.{route}
 use Rattle.fwd_source.specs.declared.piece.Piece.{Piece}
 use Rattle.fwd_source.specs.declared.piece.Piece.TheVariants as verdict
 use Rattle.fwd_source.specs.History.{Setup, opening_text}
+use Rattle.fwd_chunks.specs.declared.wanted.Wanted.{Wanted}
 use Rattle.fwd_chunks.specs.declared.fault.AdmitError.{AdmitError}
 use Rattle.fwd_chunks.specs.declared.fault.AdmitError.TheVariants.{Full, NumbersSpent, Memory}
 use Rattle.fwd_chunks.specs.History.{CarriedChunk}
@@ -83,8 +84,9 @@ module _ (L : Layers) where
       → Onward Answered (steps.up L c server salt now x)
   up_counts c server salt now x = past NoSuch {b = not (nat_lt server (length c.standby))} (λ known. past NotNow {b = is_some x.session} (λ none. to {a = answer.Done} refl))
 
-  take_counts : (l : L.Lane) (w now : ℕ) → Onward Answered (steps.take L l w now)
-  take_counts l w now = past_found NoSuch {x = L.worker_at l w} (λ x at. past NotNow {b = is_some x.taken || steps.is_full L x.session} (λ none. to {a = chunk_answer (L.given l now)} (chunk_counts (L.given l now))))
+  take_counts : (l : L.Lane) (w : ℕ) (wanted : Wanted) (now : ℕ)
+      → Onward Answered (steps.take L l w wanted now)
+  take_counts l w wanted now = past_found NoSuch {x = L.worker_at l w} (λ x at. past NotNow {b = is_some x.taken || steps.is_full L x.session} (λ none. to {a = chunk_answer (L.given l wanted now)} (chunk_counts (L.given l wanted now))))
 
   load_counts : (now : ℕ) (x : Worker L.Session) → Onward Answered (steps.load L now x)
   load_counts now x =
@@ -113,7 +115,7 @@ module _ (L : Layers) where
   event_counts r (event.Flush o now kind) = lane_on L r o Answered (λ l. steps.flush L l now kind) (λ l here. to refl)
   event_counts r (event.Up o w server salt now) = lane_on L r o Answered _ (λ l here. worker_on L l w Answered _ (λ x at. up_counts (L.config l) server salt now x))
   event_counts r (event.Choose o w now) = lane_on L r o Answered _ (λ l here. choose_counts l w now)
-  event_counts r (event.Take o w now) = lane_on L r o Answered _ (λ l here. take_counts l w now)
+  event_counts r (event.Take o w now wanted) = lane_on L r o Answered _ (λ l here. take_counts l w wanted now)
   event_counts r (event.Load o w now) = lane_on L r o Answered _ (λ l here. worker_on L l w Answered _ (λ x at. load_counts now x))
   event_counts r (event.Wrote o w count) = lane_on L r o Answered _ (λ l here. worker_on L l w Answered _ (λ x at. session_on L x Answered _ (λ s f. wrote_counts count s)))
   event_counts r (event.Heard o w bytes) = lane_on L r o Answered _ (λ l here. worker_on L l w Answered _ (λ x at. session_on L x Answered _ (λ s f. heard_counts (L.told s bytes) (L.ping s bytes) (L.listens s bytes))))

@@ -5,6 +5,7 @@ use Rattle.std.proofs.lemmas.List.{append_assoc, append-nil}
 use Rattle.fwd_modes.specs.Requests.{Request}
 use Rattle.fwd_match.specs.Patterns.{route}
 use Rattle.fwd_source.specs.History.{SourceHistory}
+use Rattle.fwd_chunks.specs.declared.wanted.Wanted.{Wanted}
 use Rattle.fwd_chunks.specs.declared.fault.AdmitError.{AdmitError}
 use Rattle.fwd_chunks.specs.declared.fault.AdmitError.TheVariants.{Full, NumbersSpent, Memory}
 use Rattle.fwd_session.specs.History as session
@@ -125,11 +126,12 @@ module _ (h : History) (o w : ℕ) (up : is_up o w h.lanes ≡ true) where
       past_found NotNow {x = histories.acked s} (λ a acked. to {a = answer.Settled (histories.entries_at l a.chunk.number)} {s = histories.settles l v (steps.with_session x (session.unloads s)) (evidence_of s.setup.server a)}
       (lane_up p l (histories.settles l v (steps.with_session x (session.unloads s)) (evidence_of s.setup.server a)) lane (λ e b. set_stood v w l.sessions (Some (session.unloads s)) (λ d. refl) b))))))
 
-  take_up : (p v now : ℕ) → Onward Up (step histories h (event.Take p v now))
-  take_up p v now =
-      lane_on histories h p Up (λ l. steps.take histories l v now) (λ l lane.
+  take_up : (p v now : ℕ) (wanted : Wanted)
+      → Onward Up (step histories h (event.Take p v now wanted))
+  take_up p v now wanted =
+      lane_on histories h p Up (λ l. steps.take histories l v wanted now) (λ l lane.
       past_found NoSuch {x = histories.worker_at l v} (λ x at.
-      past NotNow {b = is_some x.taken || steps.is_full histories x.session} (λ none. to {a = chunk_answer (histories.given l now)} (same_up p l (histories.takes l v x now) lane refl))))
+      past NotNow {b = is_some x.taken || steps.is_full histories x.session} (λ none. to {a = chunk_answer (histories.given l wanted now)} (same_up p l (histories.takes l v x wanted now) lane refl))))
 
   choose_up : (p v now : ℕ) → Onward Up (step histories h (event.Choose p v now))
   choose_up p v now =
@@ -188,7 +190,7 @@ module _ (h : History) (o w : ℕ) (up : is_up o w h.lanes ≡ true) where
   next_up config es at (event.Flush p now kind) quiet = stays_up (event.Flush p now kind) (lane_on histories h p Up (λ l. steps.flush histories l now kind) (λ l lane. to (same_up p l (histories.flushes l now kind) lane refl)))
   next_up config es at (event.Choose p v now) quiet = stays_up (event.Choose p v now) (choose_up p v now)
   next_up config es at (event.Up p v server salt now) quiet = stays_up (event.Up p v server salt now) (begins_up p v server salt now)
-  next_up config es at (event.Take p v now) quiet = stays_up (event.Take p v now) (take_up p v now)
+  next_up config es at (event.Take p v now wanted) quiet = stays_up (event.Take p v now wanted) (take_up p v now wanted)
   next_up config es at (event.Load p v now) quiet = stays_up (event.Load p v now) (load_up p v now)
   next_up config es at (event.Wrote p v count) quiet = stays_up (event.Wrote p v count) (session_up p v (steps.wrote histories count))
   next_up config es at (event.Heard p v bytes) quiet = stays_up (event.Heard p v bytes) (session_up p v (steps.heard histories bytes))

@@ -208,9 +208,10 @@ lane_histories = record {
   puts_worker = λ l w x. with_place w x.session l;
   chosen = λ l w now. output_history_choice l.output w now;
   watches = λ l now. with_output l (output_history_looks l.output now);
-  given = λ l now.
-      option_map (carried_chunk_of l.output.buffer) (buffer.given (looks l.output.buffer now));
-  takes = λ l w x now. with_buffer l (buffer.takes l.output.buffer w now);
+  given = λ l wanted now.
+      option_map (carried_chunk_of l.output.buffer)
+      (buffer.given_for (looks l.output.buffer now) wanted);
+  takes = λ l w x wanted now. with_buffer l (buffer.takes l.output.buffer w wanted now);
   entries_at = λ l number. count_at number l.output;
   settles = λ l w x e.
       with_place w x.session (with_output l (output_history_settles l.output e));

@@ -9,6 +9,7 @@ use Rattle.fwd_source.specs.History.{Setup}
 use Rattle.fwd_source.specs.Layer.{Sources}
 use Rattle.fwd_chunks.specs.declared.fault.AdmitError.{AdmitError}
 use Rattle.fwd_chunks.specs.declared.flush.FlushKind.{FlushKind}
+use Rattle.fwd_chunks.specs.declared.wanted.Wanted.{Wanted}
 use Rattle.fwd_chunks.specs.History.{CarriedChunk}
 use Rattle.fwd_session.specs.declared.told.SessionHeard.{SessionHeard}
 use Rattle.fwd_session.specs.ServerAcks.{Accepted, ServerAck}
@@ -75,9 +76,10 @@ pub record Lanes (Session : Type 0) : Type 1 where
   -- the server that a worker tries at a moment, and that the moment was handed in
   pub chosen : Lane → ℕ → ℕ → Option ℕ
   pub watches : Lane → ℕ → Lane
-  -- the chunk that has the least free number at a moment, and that the worker takes it
-  pub given : Lane → ℕ → Option CarriedChunk
-  pub takes : Lane → ℕ → Worker Session → ℕ → Lane
+  -- the chunk that has the least number that is free at a moment for what is wanted, and that the
+  -- worker takes it
+  pub given : Lane → Wanted → ℕ → Option CarriedChunk
+  pub takes : Lane → ℕ → Worker Session → Wanted → ℕ → Lane
   -- how many entries a number has, and that they are settled, which leaves the worker so
   pub entries_at : Lane → ℕ → ℕ
   pub settles : Lane → ℕ → Worker Session → ServerAck → Lane

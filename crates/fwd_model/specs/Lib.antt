@@ -16,5 +16,6 @@ pub mod Delivered
 pub mod Live
 -- Of the crates below, for those above: what events and answers hold.
 pub use Rattle.fwd_chunks.specs.declared.flush.FlushKind
+pub use Rattle.fwd_chunks.specs.declared.wanted.Wanted
 pub use Rattle.fwd_session.specs.declared.fault.SessionFault
 pub use Rattle.fwd_source.specs.declared.fault.SourceFault

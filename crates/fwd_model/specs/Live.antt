@@ -29,6 +29,7 @@ use Rattle.fwd_source.specs.History.{Setup}
 use Rattle.fwd_source.specs.Live.{LiveSource, live_source, opened_source}
 use Rattle.fwd_source.specs.Layer.{live_sources}
 use Rattle.fwd_model.specs.declared.config.OutputConfig.{OutputConfig}
+use Rattle.fwd_chunks.specs.declared.wanted.Wanted.{Wanted}
 use Rattle.fwd_chunks.specs.Counts.{Counts}
 use Rattle.fwd_chunks.specs.Report.{Report}
 use Rattle.fwd_chunks.specs.TagCounts.{live_report}
@@ -39,7 +40,7 @@ use Rattle.fwd_chunks.specs.Live.{
   live_refusal,
   live_closing,
   live_flushes,
-  live_given,
+  live_given_for,
   live_carried_chunk,
   live_looks,
   live_counts,
@@ -191,16 +192,20 @@ with_live_book l b = with_live_output l (record (l.output) { book = b })
 abbrev pub with_live_worker : LiveLane → ℕ → Worker LiveSession → LiveLane
 with_live_worker l w x = record l { workers = slice_set l.workers w x }
 
--- the chunk that has the least free number at a moment
-abbrev pub lane_gives : LiveLane → ℕ → Option CarriedChunk
-lane_gives l now =
-    option_map (live_carried_chunk l.output.buffer) (live_given (live_looks l.output.buffer now))
+-- the chunk that has the least number that is free at a moment for what is wanted
+abbrev pub lane_gives : LiveLane → Wanted → ℕ → Option CarriedChunk
+lane_gives l wanted now =
+    option_map (live_carried_chunk l.output.buffer)
+    (live_given_for (live_looks l.output.buffer now) wanted)
 
 -- the worker takes that chunk, if there is one
-abbrev pub lane_takes : LiveLane → ℕ → Worker LiveSession → ℕ → LiveLane
-lane_takes l w x now = record l {
-  output = record (l.output) { buffer = buffer.live_takes l.output.buffer w now };
-  workers = slice_set l.workers w (record { taken = lane_gives l now; session = x.session });
+abbrev pub lane_takes : LiveLane → ℕ → Worker LiveSession → Wanted → ℕ → LiveLane
+lane_takes l w x wanted now = record l {
+  output = record (l.output) { buffer = buffer.live_takes l.output.buffer w wanted now };
+  workers = slice_set l.workers w (record {
+    taken = lane_gives l wanted now;
+    session = x.session;
+  });
 }
 
 -- a chunk of the worker is settled, which leaves it so

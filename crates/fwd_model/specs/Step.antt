@@ -30,6 +30,7 @@ use Rattle.fwd_model.specs.declared.event.Event.{Event}
 use Rattle.fwd_model.specs.declared.event.Event.TheVariants as event
 use Rattle.fwd_chunks.specs.declared.fault.AdmitError.{AdmitError}
 use Rattle.fwd_chunks.specs.declared.flush.FlushKind.{FlushKind}
+use Rattle.fwd_chunks.specs.declared.wanted.Wanted.{Wanted}
 use Rattle.fwd_chunks.specs.History.{CarriedChunk}
 use Rattle.fwd_session.specs.ServerAcks.{evidence_of, frame_of}
 use Rattle.fwd_model.specs.declared.config.OutputConfig.{OutputConfig}
@@ -264,12 +265,13 @@ module _ (L : Layers) where
   is_full None = false
   is_full (Some s) = room s == 0
 
-  -- a worker takes the least free number, if there is one; the moment has grown either way
-  abbrev pub take : Lane → ℕ → ℕ → Outcome Lane
-  take l w now = do
+  -- a worker takes the least number that is free for what it wants, if there is one; the moment has
+  -- grown either way
+  abbrev pub take : Lane → ℕ → Wanted → ℕ → Outcome Lane
+  take l w wanted now = do
     x ← found (worker_at l w) NoSuch
     refuse_if (is_some x.taken || is_full x.session) NotNow
-    Goes (chunk_answer (given l now)) (takes l w x now)
+    Goes (chunk_answer (given l wanted now)) (takes l w x wanted now)
 
   -- the chunk that a worker took is put into its session
   abbrev pub load : ℕ → Worker Session → Outcome (Worker Session)
@@ -355,7 +357,7 @@ module _ (L : Layers) where
   step r (event.Choose o w now) = at_lane r o (λ l. choose l w now)
   step r (event.Up o w server salt now) =
       at_lane r o (λ l. at_worker l w (up (config l) server salt now))
-  step r (event.Take o w now) = at_lane r o (λ l. take l w now)
+  step r (event.Take o w now wanted) = at_lane r o (λ l. take l w wanted now)
   step r (event.Load o w now) = at_lane r o (λ l. at_worker l w (load now))
   step r (event.Wrote o w count) =
       at_lane r o (λ l. at_worker l w (λ x. at_session x (wrote count)))

@@ -1,5 +1,5 @@
 use fwd_base::Bytes;
-use fwd_chunks::FlushKind;
+use fwd_chunks::{FlushKind, Wanted};
 use fwd_session::OwnedSalt;
 
 /// How a worker's session ends.
@@ -52,11 +52,12 @@ pub enum Event {
         salt: OwnedSalt,
         now: u64,
     },
-    /// A worker takes the least free chunk of its output.
+    /// A worker takes a free chunk of its output: the least of those that it wants.
     Take {
         output: u16,
         worker: u16,
         now: u64,
+        wanted: Wanted,
     },
     /// The chunk that a worker took is put into its session's waiting bytes.
     Load {

@@ -16,7 +16,7 @@ pub use answer::Answer;
 pub use config::{Config, OutputConfig};
 pub use event::{EndKind, Event};
 pub use fault::Refusal;
-pub use fwd_chunks::{BufferLimits, Counts, FlushKind, Span};
+pub use fwd_chunks::{BufferLimits, Counts, FlushKind, Span, Wanted};
 pub use fwd_session::{AckTerms, OwnedSalt, SessionFault};
 pub use fwd_source::{Origin, SourceFault};
 pub use laws::{

@@ -11,7 +11,8 @@ use Rattle.fwd_chunks.specs.declared.chunk.Chunk.{Chunk}
 use Rattle.fwd_chunks.specs.declared.flush.FlushKind.{FlushKind}
 use Rattle.fwd_chunks.specs.declared.span.Span.{Span}
 use Rattle.fwd_chunks.specs.History.{BufferSetting, CarriedChunk}
-use Rattle.fwd_chunks.specs.Live.{LiveBuffer, IsCarried, is_at, live_opening, live_looks, live_enters, live_spans, live_flushes, live_takes, live_is_free, live_carries_more, live_frees, live_settles}
+use Rattle.fwd_chunks.specs.declared.wanted.Wanted.{Wanted}
+use Rattle.fwd_chunks.specs.Live.{LiveBuffer, IsCarried, is_at, live_opening, live_looks, live_enters, live_spans, live_flushes, live_takes, live_given_for, live_carries_more, live_frees, live_settles}
 use Rattle.fwd_chunks.specs.Soundness.{IsSound}
 use Rattle.fwd_chunks.specs.Spans.{run_in, IsHeld, AreHeld, IsGone}
 use Rattle.fwd_chunks.proofs.Holding.{Stays, flushes-stays, takes-stays, frees-stays, settles-held, settles-gone, settled-gone, enters-held, enters-gone, spans-held, carried-run, carried-found}
@@ -66,9 +67,9 @@ pub flushes-coupled : (b : LiveBuffer) (k : LiveBook) (now : ℕ) (kind : FlushK
     → IsCoupled b k → IsCoupled (live_flushes b now kind) k
 flushes-coupled b k now kind own = stays-coupled b (live_flushes b now kind) k refl (flushes-stays b now kind) own
 
-pub takes-coupled : (b : LiveBuffer) (k : LiveBook) (worker now : ℕ) → IsCoupled b k
-    → IsCoupled (live_takes b worker now) k
-takes-coupled b k worker now own = stays-coupled b (live_takes b worker now) k (setting (find (live_is_free (live_looks b now)) b.chunks)) (takes-stays b worker now) own
+pub takes-coupled : (b : LiveBuffer) (k : LiveBook) (worker : ℕ) (wanted : Wanted) (now : ℕ)
+    → IsCoupled b k → IsCoupled (live_takes b worker wanted now) k
+takes-coupled b k worker wanted now own = stays-coupled b (live_takes b worker wanted now) k (setting (live_given_for (live_looks b now) wanted)) (takes-stays b worker wanted now) own
   where
     setting : (o : Option Chunk)
         → (live_carries_more worker o (live_looks b now)).setting ≡ b.setting

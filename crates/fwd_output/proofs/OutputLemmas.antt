@@ -10,6 +10,7 @@ use Rattle.fwd_chunks.specs.declared.fault.AdmitError.{AdmitError}
 use Rattle.fwd_chunks.specs.declared.flush.FlushKind.{FlushKind}
 use Rattle.fwd_chunks.specs.Cells.{is_carried, has_number}
 use Rattle.fwd_chunks.specs.History.{BufferSetting, BufferHistory, CarriedChunk, carried_chunk_of, spans_of, looks, frees}
+use Rattle.fwd_chunks.specs.declared.wanted.Wanted.{Wanted}
 use Rattle.fwd_chunks.specs.Live.{LiveBuffer, live_buffer, IsCarried, live_refusal, live_looks, live_flushes, live_takes, live_frees}
 use Rattle.fwd_chunks.proofs.Follows as buffer
 use Rattle.fwd_chunks.proofs.Sane as sane
@@ -72,8 +73,8 @@ next-sane o (Flush now kind) own may =
     record { buffer = sane.flushes-sane o.buffer now kind own.buffer; marks = own.marks }
 next-sane o (Look now) own may =
     record { buffer = sane.looks-sane o.buffer now own.buffer; marks = own.marks }
-next-sane o (Take worker now) own may =
-    record { buffer = sane.takes-sane o.buffer worker now own.buffer; marks = own.marks }
+next-sane o (Take worker wanted now) own may =
+    record { buffer = sane.takes-sane o.buffer worker wanted now own.buffer; marks = own.marks }
 next-sane o (Settle e) own may = record {
   buffer = sane.settles-sane o.buffer e.number own.buffer may.0;
   marks = numbers_in-push o.book.settled e ∙ ap (λ ns. ns ++ e.number ∷ []) own.marks;
@@ -177,24 +178,24 @@ pub flushes : (l : LiveOutput) (now : ℕ) (kind : FlushKind) → IsLiveOutput l
     → IsLiveOutput (with_buffer (live_flushes l.buffer now kind) l)
 flushes l now kind t = goes l (with_buffer (live_flushes l.buffer now kind) l) t (flush-turn l now kind t)
 
-take-follows : (h : OutputHistory) (worker now : ℕ) → IsSaneOutput h
-    → live_output (output_next h (Take worker now))
-    ≡ with_buffer (live_takes (live_output h).buffer worker now) (live_output h)
+take-follows : (h : OutputHistory) (worker : ℕ) (wanted : Wanted) (now : ℕ) → IsSaneOutput h
+    → live_output (output_next h (Take worker wanted now))
+    ≡ with_buffer (live_takes (live_output h).buffer worker wanted now) (live_output h)
 unfolding live_output
-take-follows h worker now own = λ i. record {
-  buffer = buffer.takes-live h.buffer worker now h.buffer.setting.limits.bounded own.buffer i;
+take-follows h worker wanted now own = λ i. record {
+  buffer = buffer.takes-live h.buffer worker wanted now h.buffer.setting.limits.bounded own.buffer i;
   book = live_book h.book;
   servers = live_servers h.setting h.servers;
 }
 
-pub take-turn : (l : LiveOutput) (worker now : ℕ) (t : IsLiveOutput l)
-    → Turn t.history (with_buffer (live_takes l.buffer worker now) l)
-take-turn l worker now t =
-    moves (λ x. with_buffer (live_takes x.buffer worker now) x) (Take worker now) l t tt (take-follows t.history worker now (standing-sane l t))
+pub take-turn : (l : LiveOutput) (worker : ℕ) (wanted : Wanted) (now : ℕ) (t : IsLiveOutput l)
+    → Turn t.history (with_buffer (live_takes l.buffer worker wanted now) l)
+take-turn l worker wanted now t =
+    moves (λ x. with_buffer (live_takes x.buffer worker wanted now) x) (Take worker wanted now) l t tt (take-follows t.history worker wanted now (standing-sane l t))
 
-pub takes : (l : LiveOutput) (worker now : ℕ) → IsLiveOutput l
-    → IsLiveOutput (with_buffer (live_takes l.buffer worker now) l)
-takes l worker now t = goes l (with_buffer (live_takes l.buffer worker now) l) t (take-turn l worker now t)
+pub takes : (l : LiveOutput) (worker : ℕ) (wanted : Wanted) (now : ℕ) → IsLiveOutput l
+    → IsLiveOutput (with_buffer (live_takes l.buffer worker wanted now) l)
+takes l worker wanted now t = goes l (with_buffer (live_takes l.buffer worker wanted now) l) t (take-turn l worker wanted now t)
 
 look-follows : (h : OutputHistory) (now : ℕ)
     → live_output (output_next h (Look now)) ≡ output_looks (live_output h) now

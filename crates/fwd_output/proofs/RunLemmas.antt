@@ -52,7 +52,7 @@ next-setting : (h : OutputHistory) (e : OutputEvent) → (output_next h e).book.
 next-setting h (Enter origin r now) = refl
 next-setting h (Flush now kind) = refl
 next-setting h (Look now) = refl
-next-setting h (Take worker now) = refl
+next-setting h (Take worker wanted now) = refl
 next-setting h (Settle e) = refl
 next-setting h (End back server now) = refl
 next-setting h (PutBack number) = refl

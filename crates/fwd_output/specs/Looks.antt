@@ -14,6 +14,7 @@ use Rattle.std.specs.Prelude.{
   IfSome,
 }
 use Rattle.fwd_chunks.specs.declared.flush.FlushKind.TheVariants as kind
+use Rattle.fwd_chunks.specs.declared.wanted.Wanted.TheVariants as wanted
 use Rattle.fwd_chunks.specs.Live.{live_flushes, live_takes}
 use Rattle.fwd_failover.specs.Doubts.{live_is_doubted, live_trusted}
 use Rattle.fwd_model.specs.Outputs.{output_choice, output_looks}
@@ -34,7 +35,7 @@ locked_flushes s now =
 -- a worker takes the free chunk of the least number, if there is one
 abbrev pub locked_takes : LockedState → (worker now : ℕ) → LockedState
 locked_takes s worker now =
-    locked_with s (record (s.output) { buffer = live_takes s.output.buffer worker now })
+    locked_with s (record (s.output) { buffer = live_takes s.output.buffer worker wanted.Any now })
 
 -- what a worker sees of its output at a moment
 pub record IsSeen (s : LockedState) (worker now : ℕ) (view : ServerView) : Type 0 where

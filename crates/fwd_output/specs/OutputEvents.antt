@@ -13,6 +13,7 @@ use Rattle.std.specs.Prelude.{
 use Rattle.fwd_modes.specs.Requests.{Request}
 use Rattle.fwd_modes.specs.declared.origin.Origin.{Origin}
 use Rattle.fwd_chunks.specs.declared.flush.FlushKind.{FlushKind}
+use Rattle.fwd_chunks.specs.declared.wanted.Wanted.{Wanted}
 use Rattle.fwd_chunks.specs.Cells.{is_carried}
 use Rattle.fwd_chunks.specs.History as buffer
 use Rattle.fwd_chunks.specs.History.{BufferSetting, BufferHistory, carried_chunk_of}
@@ -34,14 +35,14 @@ use Rattle.fwd_model.specs.Outputs.{
 }
 
 -- a request is entered at a moment; open chunks are closed; a moment is handed in; a worker asks
--- for a chunk; a server acknowledged a chunk; the chunks of a worker come back, and a server may be
--- lost; a chunk comes back that was not sent; the requests of some origins are told; or nobody is
--- to be told of them any more, or of those of a connection
+-- for a chunk that it wants; a server acknowledged a chunk; the chunks of a worker come back, and a
+-- server may be lost; a chunk comes back that was not sent; the requests of some origins are told;
+-- or nobody is to be told of them any more, or of those of a connection
 pub data OutputEvent : Type 0 where
   Enter : (origin : Origin) (r : Request) (now : ℕ) → OutputEvent
   Flush : (now : ℕ) (kind : FlushKind) → OutputEvent
   Look : (now : ℕ) → OutputEvent
-  Take : (worker now : ℕ) → OutputEvent
+  Take : (worker : ℕ) (wanted : Wanted) (now : ℕ) → OutputEvent
   Settle : (e : ServerAck) → OutputEvent
   End : (back : List Return) (server : Option ℕ) (now : ℕ) → OutputEvent
   PutBack : (number : ℕ) → OutputEvent
@@ -75,7 +76,8 @@ abbrev pub output_next : OutputHistory → OutputEvent → OutputHistory
 output_next o (Enter origin r now) = output_history_enters o origin r now
 output_next o (Flush now kind) = record o { buffer = buffer.flushes o.buffer now kind }
 output_next o (Look now) = output_history_looks o now
-output_next o (Take worker now) = record o { buffer = buffer.takes o.buffer worker now }
+output_next o (Take worker wanted now) =
+    record o { buffer = buffer.takes o.buffer worker wanted now }
 output_next o (Settle e) = output_history_settles o e
 output_next o (End back server now) = output_history_ends o back server now
 output_next o (PutBack number) = record o { buffer = buffer.frees o.buffer number None }

@@ -25,6 +25,7 @@ ghost use Rattle.std.specs.Prelude.{
 };
 ghost use Rattle.std.specs.Arc.{arc_value};
 ghost use Rattle.std.specs.List.Sorted.{IsPermutation};
+ghost use Rattle.fwd_chunks.specs.declared.wanted.Wanted.TheVariants as wanted;
 ghost use Rattle.fwd_chunks.specs.Live.{
   IsCarried,
   live_closing,
@@ -366,7 +367,7 @@ impl<A: Tally, S: Tally> Locked<A, S> {
             (live_carried_chunk self.old.output.buffer)
             (live_given (live_looks self.old.output.buffer now))) }
         ensures ok { OnOk result (self.new ≡ locked_with self.old (record (self.old.output) {
-          buffer = live_takes self.old.output.buffer worker now;
+          buffer = live_takes self.old.output.buffer worker wanted.Any now;
         })) }
         ensures err { OnErr result (self.new ≡ self.old) }
 
@@ -393,7 +394,7 @@ impl<A: Tally, S: Tally> Locked<A, S> {
         ensures losses { IfOk result (λ picked. IfSome picked (λ p.
             p.losses ≡ live_losses self.new.output.buffer p.chunk.number)) }
         ensures ok { OnOk result (self.new ≡ locked_with self.old (record (self.old.output) {
-          buffer = live_takes self.old.output.buffer worker now;
+          buffer = live_takes self.old.output.buffer worker wanted.Any now;
         })) }
         ensures err { OnErr result (self.new ≡ self.old) }
         ensures same { seat.new ≡ seat.old }

@@ -24,7 +24,6 @@ ghost use Rattle.std.specs.Prelude.{
   length,
   map,
   option_copied,
-  option_map,
   option_to_list,
   slice_get,
   true,
@@ -42,12 +41,9 @@ ghost use Rattle.fwd_chunks.specs.Live.{
   live_refusal,
   live_closing,
   live_flushes,
-  live_given,
-  live_carried_chunk,
   live_looks,
   live_losses,
   live_spans,
-  live_takes,
   live_frees,
   live_counts,
 };
@@ -93,6 +89,8 @@ ghost use Rattle.fwd_output.specs.HandedBack.{
   kept_back,
   lost_back,
 };
+
+mod taking;
 
 use crate::ticket::Admitted;
 use fwd_book::{Book, Receipt};
@@ -306,27 +304,6 @@ impl OutputState {
         } }
     {
         self.buffer.flush(now, kind)
-    }
-
-    /// Gives a worker the free chunk of the least number at a moment (milliseconds), if there is
-    /// one. On an error nothing has changed.
-    pub fn take(
-        &mut self,
-        alloc: Global,
-        worker: u16,
-        now: u64,
-    ) -> Result<Option<Carried>, AllocError>
-        ensures given { IfOk result (λ carried. carried ≡ option_map
-            (live_carried_chunk self.old.buffer) (live_given (live_looks self.old.buffer now))) }
-        ensures ok { OnOk result (self.new ≡ record self.old {
-          buffer = live_takes self.old.buffer worker now;
-        }) }
-        ensures err { OnErr result (self.new ≡ self.old) }
-
-        // Where none is free, no memory is taken.
-        ensures none { live_given (live_looks self.old.buffer now) ≡ None → IsOk result }
-    {
-        self.buffer.take(alloc, worker, now)
     }
 
     /// The server that a worker tries at a moment (milliseconds), if one is usable: by the greatest

@@ -31,6 +31,7 @@ ghost use Rattle.fwd_chunks.specs.Live.{
   live_closing,
   live_flushes,
   live_given,
+  live_given_for,
   live_carried_chunk,
   live_looks,
   live_refusal,
@@ -64,7 +65,7 @@ use crate::output_setup::OutputSetup;
 use crate::run_event::{Becomes, OutputPage, ReachedHistory};
 use crate::ticket::{Admitted, Ticket};
 use fwd_book::Receipt;
-use fwd_chunks::{AdmitError, Carried, FlushKind};
+use fwd_chunks::{AdmitError, Carried, FlushKind, Wanted};
 use fwd_history::Run;
 use fwd_modes::{Batch, Origin};
 use fwd_session::Acked;
@@ -196,14 +197,37 @@ impl<J: Run> PagedOutput<J> {
         ensures given { IfOk result (λ carried. carried ≡ option_map
             (live_carried_chunk self.old.buffer) (live_given (live_looks self.old.buffer now))) }
         ensures ok { OnOk result (self.new ≡ record self.old {
-          buffer = live_takes self.old.buffer worker now;
+          buffer = live_takes self.old.buffer worker Wanted.Any now;
         }) }
         ensures err { OnErr result (self.new ≡ self.old) }
 
         // Where none is free, no memory is taken.
         ensures none { live_given (live_looks self.old.buffer now) ≡ None → IsOk result }
     {
-        let taken = self.state.take(alloc, worker, now)?;
+        self.take_wanted(alloc, worker, Wanted::Any, now)
+    }
+
+    /// As `OutputState::take_wanted`.
+    pub(crate) fn take_wanted(
+        &mut self,
+        alloc: Global,
+        worker: u16,
+        wanted: Wanted,
+        now: u64,
+    ) -> Result<Option<Carried>, AllocError>
+        ensures given { IfOk result (λ carried. carried ≡ option_map
+            (live_carried_chunk self.old.buffer)
+            (live_given_for (live_looks self.old.buffer now) wanted)) }
+        ensures ok { OnOk result (self.new ≡ record self.old {
+          buffer = live_takes self.old.buffer worker wanted now;
+        }) }
+        ensures err { OnErr result (self.new ≡ self.old) }
+
+        // Where none is free, no memory is taken.
+        ensures none { live_given_for (live_looks self.old.buffer now) wanted ≡ None
+            → IsOk result }
+    {
+        let taken = self.state.take_wanted(alloc, worker, wanted, now)?;
         self.page.add::<OutputState, Becomes>(&self.state);
         Ok(taken)
     }

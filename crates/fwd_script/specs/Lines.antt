@@ -10,6 +10,7 @@ use Rattle.fwd_model.specs.declared.event.EndKind.{EndKind}
 use Rattle.fwd_model.specs.declared.event.EndKind.TheVariants.{Kept, Lost}
 use Rattle.fwd_model.specs.FlushKind.{FlushKind}
 use Rattle.fwd_model.specs.FlushKind.TheVariants.{Due, All}
+use Rattle.fwd_model.specs.Wanted.TheVariants.{Any, Fresh}
 use Rattle.fwd_script.specs.Words.{◌>>=◌, words, hex_text, number_of, bytes_of, sixteen_of, salt_of}
 
 -- ---- what a word says
@@ -98,7 +99,7 @@ abbrev pub output_forms : List Form
 output_forms =
     row (codes "flush") (Short ∷ Long ∷ Closing ∷ []) events.Flush
     ∷ row (codes "choose") (Short ∷ Short ∷ Long ∷ []) events.Choose
-    ∷ row (codes "take") (Short ∷ Short ∷ Long ∷ []) events.Take
+    ∷ row (codes "take") (Short ∷ Short ∷ Long ∷ []) (λ o w now. events.Take o w now Any)
     ∷ row (codes "settle") (Short ∷ Short ∷ []) events.Settle
     ∷ session_forms
 
@@ -161,6 +162,12 @@ pub record IsLineOf (event : Event) (line : List ℕ) : Type 0 where
   pub spelling : Spelling event
   pub fits : AllFit (said spelling).1
   pub spells : line ≡ join_with_byte 32 ((said spelling).0 ∷ texts (said spelling).1)
+
+-- Whether lines tell of the event: a take of theirs is of any chunk. A chunk that no loss ever held
+-- back is what a thread asks for, and no line.
+abbrev pub HasLines : Event → Type 0
+HasLines (events.Take output worker now Fresh) = ⊥
+HasLines event = Unit {0}
 
 -- an event is in one row of the table alone, and is made there of one list of values alone
 pub record HasOneSpelling (event : Event) : Type 0 where

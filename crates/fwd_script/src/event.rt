@@ -12,13 +12,15 @@ ghost use Rattle.fwd_script.specs.Lines.{
   named,
   event_of,
   IsLineOf,
+  HasLines,
   HasOneSpelling,
+  Spelling,
 };
 ghost use Rattle.fwd_script.specs.Words.{HasBytes};
 
 use crate::values::Words;
 use crate::word::split_words;
-use fwd_model::Event;
+use fwd_model::{Event, Wanted};
 use std::alloc::{AllocError, Global};
 
 /// The event of a script line, where the line has the form of one: words with one space between
@@ -42,9 +44,11 @@ pub fn one_spelling()
         (event_of line ≡ Some event) ↔ IsLineOf event line }
 {}
 
-/// Each event is made by one row of the table alone, and there of one list of values alone.
+/// Each event that lines tell of is made by one row of the table alone, and there of one list of
+/// values alone. No row makes another event.
 pub fn one_form()
-    ensures { (event : Event) → HasOneSpelling event }
+    ensures one { (event : Event) → HasLines event → HasOneSpelling event }
+    ensures none { (event : Event) → Spelling event → HasLines event }
 {}
 
 /// A line that is an event is text, so that one which is not UTF-8 is none.
@@ -58,11 +62,15 @@ macro_rules! values {
     ($field:ident $(, $more:ident)*) => { ($field, values!($($more),*)) };
 }
 
-/// The event of just these words, each read as its field's type.
+/// The event of just these words, each read as its field's type, and of a value that no word says.
 macro_rules! event {
     ($alloc:expr, $words:expr; $event:ident { $($field:ident),* }) => {
         Ok(Words::read_words($alloc, $words)?
             .map(|values!($($field),*)| Event::$event { $($field),* }))
+    };
+    ($alloc:expr, $words:expr; $event:ident { $($field:ident),*; $unsaid:ident: $value:expr }) => {
+        Ok(Words::read_words($alloc, $words)?
+            .map(|values!($($field),*)| Event::$event { $($field),*, $unsaid: $value }))
     };
 }
 
@@ -102,7 +110,7 @@ fn output_event_named(
     } else if name == b"choose".as_slice() {
         event!(alloc, rest; Choose { output, worker, now })
     } else if name == b"take".as_slice() {
-        event!(alloc, rest; Take { output, worker, now })
+        event!(alloc, rest; Take { output, worker, now; wanted: Wanted::Any })
     } else if name == b"settle".as_slice() {
         event!(alloc, rest; Settle { output, worker })
     } else {

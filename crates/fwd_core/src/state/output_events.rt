@@ -8,7 +8,7 @@ ghost use Rattle.fwd_model.specs.Outcome.{answer_of, state_of};
 ghost use Rattle.fwd_model.specs.Step.{step};
 
 use super::State;
-use fwd_model::{Answer, EndKind, FlushKind, OwnedSalt, Refusal};
+use fwd_model::{Answer, EndKind, FlushKind, OwnedSalt, Refusal, Wanted};
 use std::alloc::{AllocError, Global};
 
 impl State {
@@ -64,26 +64,29 @@ impl State {
         self.lanes[place].up(alloc, worker, server, salt, now)
     }
 
-    /// A worker takes the least free chunk of its output. On an error nothing has changed.
+    /// A worker takes a free chunk of its output: the least of those that it wants. On an error
+    /// nothing has changed.
     pub(super) fn take(
         &mut self,
         alloc: Global,
         output: u16,
         worker: u16,
         now: u64,
+        wanted: Wanted,
     ) -> Result<Answer, AllocError>
         ensures answer { IfOk result (λ a.
-            a ≡ answer_of (step lives self.old (event.Take output worker now))) }
-        ensures sure { is_free_at self.old (event.Take output worker now) ≡ true → IsOk result }
+            a ≡ answer_of (step lives self.old (event.Take output worker now wanted))) }
+        ensures sure { is_free_at self.old (event.Take output worker now wanted) ≡ true
+            → IsOk result }
         ensures next { OnOk result (self.new
-            ≡ state_of self.old (step lives self.old (event.Take output worker now))) }
+            ≡ state_of self.old (step lives self.old (event.Take output worker now wanted))) }
         ensures err { OnErr result (self.new ≡ self.old) }
     {
         let place = usize::from(output);
         if place >= self.lanes.len() {
             return Ok(Answer::Refused(Refusal::NoSuch));
         }
-        self.lanes[place].take(alloc, worker, now)
+        self.lanes[place].take(alloc, worker, wanted, now)
     }
 
     /// A worker's chunk is put into its session. On an error nothing has changed.

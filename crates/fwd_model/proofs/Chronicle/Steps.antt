@@ -12,6 +12,7 @@ use Rattle.fwd_source.proofs.Following.{heard}
 use Rattle.fwd_chunks.specs.declared.fault.AdmitError.{AdmitError}
 use Rattle.fwd_chunks.specs.declared.fault.AdmitError.TheVariants.{Full, NumbersSpent, Memory}
 use Rattle.fwd_chunks.specs.declared.flush.FlushKind.{FlushKind}
+use Rattle.fwd_chunks.specs.declared.wanted.Wanted.{Wanted}
 use Rattle.fwd_chunks.specs.History as buffer
 use Rattle.fwd_chunks.specs.History.{CarriedChunk}
 use Rattle.fwd_session.specs.declared.told.SessionHeard.{SessionHeard}
@@ -243,19 +244,19 @@ module _ (config : Config) (es : List Event) (sane : IsSane (reached config es))
       (steps.at_lane histories h o (λ l. steps.flush histories l now kind))
   flush_on e calm o now kind = lane_on histories h o _ (λ l. steps.flush histories l now kind) (λ l lane. to (lane_next e calm o _ (flushed_story e calm o now kind l lane)))
 
-  taken_story : (e : Event) → Calm config es e t → (o w now : ℕ) (l : Lane)
+  taken_story : (e : Event) → Calm config es e t → (o w : ℕ) (wanted : Wanted) (now : ℕ) (l : Lane)
       → slice_get h.lanes o ≡ Some l
       → LaneStory config (es ++ e ∷ []) h.connections o
-      (with_buffer l (buffer.takes l.output.buffer w now))
-  taken_story e calm o w now l lane =
+      (with_buffer l (buffer.takes l.output.buffer w wanted now))
+  taken_story e calm o w wanted now l lane =
       let s = still config es e t h.connections o l (extends_same h.connections) (calm o) lane in
       record { sessions = s.sessions; numbers = s.numbers; own = s.own; requests = s.requests; numbered = s.numbered; named = s.named }
 
-  take_on : (e : Event) → Calm config es e t → (o w now : ℕ)
+  take_on : (e : Event) → Calm config es e t → (o w : ℕ) (wanted : Wanted) (now : ℕ)
       → Onward (λ a k. Story config (es ++ e ∷ []) k)
-      (steps.at_lane histories h o (λ l. steps.take histories l w now))
-  take_on e calm o w now = lane_on histories h o _ (λ l. steps.take histories l w now) (λ l lane.
-      past_found NoSuch {x = histories.worker_at l w} (λ x at. past NotNow {b = is_some x.taken || steps.is_full histories x.session} (λ none. to {a = chunk_answer (histories.given l now)} (lane_next e calm o _ (taken_story e calm o w now l lane)))))
+      (steps.at_lane histories h o (λ l. steps.take histories l w wanted now))
+  take_on e calm o w wanted now = lane_on histories h o _ (λ l. steps.take histories l w wanted now) (λ l lane.
+      past_found NoSuch {x = histories.worker_at l w} (λ x at. past NotNow {b = is_some x.taken || steps.is_full histories x.session} (λ none. to {a = chunk_answer (histories.given l wanted now)} (lane_next e calm o _ (taken_story e calm o w wanted now l lane)))))
 
   watched_story : (e : Event) → Calm config es e t → (o now : ℕ) (l : Lane)
       → slice_get h.lanes o ≡ Some l
@@ -428,7 +429,7 @@ module _ (config : Config) (es : List Event) (sane : IsSane (reached config es))
   goes_on (event.Flush o now kind) = calmly (event.Flush o now kind) (λ j v kind' moment numbers is done. absurd cc) (anyhow _ _ (flush_on (event.Flush o now kind) (λ j v kind' moment numbers is done. absurd cc) o now kind))
   goes_on (event.Choose o w now) = calmly (event.Choose o w now) (λ j v kind' moment numbers is done. absurd cc) (anyhow _ _ (choose_on (event.Choose o w now) (λ j v kind' moment numbers is done. absurd cc) o w now))
   goes_on (event.Up o w server salt now) = calmly (event.Up o w server salt now) (λ j v kind' moment numbers is done. absurd cc) (up_on o w server salt now)
-  goes_on (event.Take o w now) = calmly (event.Take o w now) (λ j v kind' moment numbers is done. absurd cc) (anyhow _ _ (take_on (event.Take o w now) (λ j v kind' moment numbers is done. absurd cc) o w now))
+  goes_on (event.Take o w now wanted) = calmly (event.Take o w now wanted) (λ j v kind' moment numbers is done. absurd cc) (anyhow _ _ (take_on (event.Take o w now wanted) (λ j v kind' moment numbers is done. absurd cc) o w wanted now))
   goes_on (event.Load o w now) = calmly (event.Load o w now) (λ j v kind' moment numbers is done. absurd cc) (load_on o w now)
   goes_on (event.Wrote o w count) = calmly (event.Wrote o w count) (λ j v kind' moment numbers is done. absurd cc) (wrote_on o w count)
   goes_on (event.Heard o w bytes) = calmly (event.Heard o w bytes) (λ j v kind' moment numbers is done. absurd cc) (anyhow _ _ (heard_on o w bytes))

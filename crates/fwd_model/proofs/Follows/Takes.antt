@@ -6,9 +6,10 @@ use Rattle.std.specs.List.{AllByRecursion}
 use Rattle.std.proofs.lemmas.Bool.Decides.{nat_tests}
 use Rattle.std.proofs.lemmas.Option.{same_Some}
 use Rattle.std.proofs.lemmas.List.{length-append, map-append}
+use Rattle.fwd_chunks.specs.declared.wanted.Wanted.{Wanted}
 use Rattle.fwd_chunks.specs.Cells.{Carry, is_carried}
-use Rattle.fwd_chunks.specs.History.{BufferHistory, CarriedChunk, carried_chunk_of, looks, given, carry_more, takes}
-use Rattle.fwd_chunks.specs.Live.{live_carried_chunk, live_given}
+use Rattle.fwd_chunks.specs.History.{BufferHistory, CarriedChunk, carried_chunk_of, looks, given_for, carry_more, takes}
+use Rattle.fwd_chunks.specs.Live.{live_carried_chunk, live_given_for}
 use Rattle.fwd_chunks.proofs.Follows as buffer
 use Rattle.fwd_chunks.proofs.Runs.{load-live}
 use Rattle.fwd_chunks.proofs.Sane as sane
@@ -125,44 +126,44 @@ others_carry w j (Some k) cs differ = carries-push_other w j k cs differ
 -- ---- take
 
 -- what is given is not carried
-given_free : (l : Lane) (now : ℕ) → IsSaneLane l → (k : ℕ)
-    → given (looks l.output.buffer now) ≡ Some k → is_carried k l.output.buffer.carried ≡ false
-given_free l now own k e =
-    let b = looks l.output.buffer now in
-    (sane.free_parts b k (sane.given-free b k (sane.looks-sane l.output.buffer now own.buffer) e)).uncarried
+given_free : (l : Lane) (wanted : Wanted) (now : ℕ) → IsSaneLane l → (k : ℕ)
+    → given_for (looks l.output.buffer now) wanted ≡ Some k
+    → is_carried k l.output.buffer.carried ≡ false
+given_free l wanted now own k e =
+    (sane.given_for-loose (looks l.output.buffer now) wanted k (sane.looks-sane l.output.buffer now own.buffer) e).uncarried
 
 -- the same chunk is given
-pub given-same : (l : Lane) (now : ℕ) → IsSaneLane l
-    → histories.given l now ≡ lane_gives (live_lane l) now
+pub given-same : (l : Lane) (wanted : Wanted) (now : ℕ) → IsSaneLane l
+    → histories.given l wanted now ≡ lane_gives (live_lane l) wanted now
 unfolding live_lane live_output
-given-same l now own =
-    load-live (looks l.output.buffer now) l.output.buffer.setting.limits.bounded (sane.looks-sane l.output.buffer now own.buffer)
-    ∙ ap (λ b. option_map (live_carried_chunk b) (live_given b)) (buffer.looks-live l.output.buffer now)
+given-same l wanted now own =
+    load-live (looks l.output.buffer now) wanted l.output.buffer.setting.limits.bounded (sane.looks-sane l.output.buffer now own.buffer)
+    ∙ ap (λ b. option_map (live_carried_chunk b) (live_given_for b wanted)) (buffer.looks-live l.output.buffer now)
 
-module _ (l : Lane) (w now : ℕ) (s : Option SessionHistory) (here : slice_get l.sessions w ≡ Some s) (none : taken_by l.output.buffer w s ≡ None) (free : steps.is_full histories s ≡ false) (own : IsSaneLane l) where
+module _ (l : Lane) (w : ℕ) (wanted : Wanted) (now : ℕ) (s : Option SessionHistory) (here : slice_get l.sessions w ≡ Some s) (none : taken_by l.output.buffer w s ≡ None) (free : steps.is_full histories s ≡ false) (own : IsSaneLane l) where
   abbrev its : Took l.config.acks.window
-      (loaded_in s) (carried_by (takes l.output.buffer w now) w) (histories.given l now)
+      (loaded_in s) (carried_by (takes l.output.buffer w wanted now) w) (histories.given l wanted now)
   its =
       let fits = own.workers w s here in
-      took l.config.acks.window l.output.buffer w (loaded_in s) (given (looks l.output.buffer now)) fits.his none fits.whole (has_room l.config.acks.window (carried_by l.output.buffer w) s fits l.config.acks.some free) (given_free l now own)
+      took l.config.acks.window l.output.buffer w (loaded_in s) (given_for (looks l.output.buffer now) wanted) fits.his none fits.whole (has_room l.config.acks.window (carried_by l.output.buffer w) s fits l.config.acks.some free) (given_free l wanted now own)
 
-  others_have : (v : ℕ) → w ≢ v → carried_by (takes l.output.buffer w now) v ≡ carried_by l.output.buffer v
-  others_have v differ = ap (loads_of l.output.buffer) (others_carry w v (given (looks l.output.buffer now)) l.output.buffer.carried differ)
+  others_have : (v : ℕ) → w ≢ v → carried_by (takes l.output.buffer w wanted now) v ≡ carried_by l.output.buffer v
+  others_have v differ = ap (loads_of l.output.buffer) (others_carry w v (given_for (looks l.output.buffer now) wanted) l.output.buffer.carried differ)
 
-  workers_taken : live_workers (record (l.output) { buffer = takes l.output.buffer w now }) 0 l.sessions
+  workers_taken : live_workers (record (l.output) { buffer = takes l.output.buffer w wanted now }) 0 l.sessions
       ≡ set (live_workers l.output 0 l.sessions) w
-      (record { taken = histories.given l now; session = option_map live_session s })
+      (record { taken = histories.given l wanted now; session = option_map live_session s })
   workers_taken =
-      ap (live_workers (record (l.output) { buffer = takes l.output.buffer w now }) 0) (sym (set-same l.sessions w s here))
-      ∙ one_changes l.output (record (l.output) { buffer = takes l.output.buffer w now }) w 0 w l.sessions s s (histories.given l now) others_have its.is (sym (zero-add w)) here
+      ap (live_workers (record (l.output) { buffer = takes l.output.buffer w wanted now }) 0) (sym (set-same l.sessions w s here))
+      ∙ one_changes l.output (record (l.output) { buffer = takes l.output.buffer w wanted now }) w 0 w l.sessions s s (histories.given l wanted now) others_have its.is (sym (zero-add w)) here
 
-  pub takes-live : live_lane (with_buffer l (takes l.output.buffer w now)) ≡ lane_takes (live_lane l) w
-      (live_worker l.output w s) now
+  pub takes-live : live_lane (with_buffer l (takes l.output.buffer w wanted now)) ≡ lane_takes (live_lane l) w
+      (live_worker l.output w s) wanted now
   unfolding live_lane live_output
   takes-live = λ i. record {
     config = l.config;
-    output = record { buffer = buffer.takes-live l.output.buffer w now l.output.buffer.setting.limits.bounded own.buffer i; book = live_book l.output.book; servers = live_servers l.output.setting l.output.servers };
-    workers = (workers_taken ∙ ap (λ c. set (live_workers l.output 0 l.sessions) w (record { taken = c; session = option_map live_session s })) (given-same l now own)) i;
+    output = record { buffer = buffer.takes-live l.output.buffer w wanted now l.output.buffer.setting.limits.bounded own.buffer i; book = live_book l.output.book; servers = live_servers l.output.setting l.output.servers };
+    workers = (workers_taken ∙ ap (λ c. set (live_workers l.output 0 l.sessions) w (record { taken = c; session = option_map live_session s })) (given-same l wanted now own)) i;
   }
 
   -- ---- an output stays sane
@@ -174,18 +175,18 @@ module _ (l : Lane) (w now : ℕ) (s : Option SessionHistory) (here : slice_get 
   carry_more-apart (Some k) cs apart free = apart-push w k cs apart (free k refl)
 
   still : (j : ℕ) (x : Option SessionHistory) → slice_get l.sessions j ≡ Some x → (w ≡ j) ⊎ (w ≢ j)
-      → IsSaneWorker l.config.acks.window (carried_by (takes l.output.buffer w now) j) x
+      → IsSaneWorker l.config.acks.window (carried_by (takes l.output.buffer w wanted now) j) x
   still j x h (inl same) =
       let is : s ≡ x = same_Some _ _ (sym here ∙ ap (slice_get l.sessions) same ∙ h) in
       let fits = own.workers w s here in
-      subst (λ k. IsSaneWorker l.config.acks.window (carried_by (takes l.output.buffer w now) k) x) same
-      (subst (λ y. IsSaneWorker l.config.acks.window (carried_by (takes l.output.buffer w now) w) y) is (record { own = fits.own; window = fits.window; his = its.his; once = fits.once; rest = its.rest; whole = its.whole; few = its.few }))
+      subst (λ k. IsSaneWorker l.config.acks.window (carried_by (takes l.output.buffer w wanted now) k) x) same
+      (subst (λ y. IsSaneWorker l.config.acks.window (carried_by (takes l.output.buffer w wanted now) w) y) is (record { own = fits.own; window = fits.window; his = its.his; once = fits.once; rest = its.rest; whole = its.whole; few = its.few }))
   still j x h (inr differ) = subst (λ cs. IsSaneWorker l.config.acks.window cs x) (sym (others_have j differ)) (own.workers j x h)
 
-  pub takes-sane : IsSaneLane (with_buffer l (takes l.output.buffer w now))
+  pub takes-sane : IsSaneLane (with_buffer l (takes l.output.buffer w wanted now))
   takes-sane = record {
-    buffer = sane.takes-sane l.output.buffer w now own.buffer;
-    apart = carry_more-apart (given (looks l.output.buffer now)) l.output.buffer.carried own.apart (given_free l now own);
+    buffer = sane.takes-sane l.output.buffer w wanted now own.buffer;
+    apart = carry_more-apart (given_for (looks l.output.buffer now) wanted) l.output.buffer.carried own.apart (given_free l wanted now own);
     marks = own.marks;
     waits = own.waits;
     workers = λ j x h. still j x h (same_or w j);

@@ -9,6 +9,7 @@ use Rattle.fwd_match.specs.Patterns.{route}
 use Rattle.fwd_modes.specs.declared.origin.Origin.{Origin}
 use Rattle.fwd_source.specs.History.{Setup, SourceHistory, opened, waiting}
 use Rattle.fwd_chunks.specs.declared.flush.FlushKind.{FlushKind}
+use Rattle.fwd_chunks.specs.declared.wanted.Wanted.{Wanted}
 use Rattle.fwd_chunks.specs.declared.fault.AdmitError.{AdmitError}
 use Rattle.fwd_chunks.specs.declared.fault.AdmitError.TheVariants.{Full, NumbersSpent, Memory}
 use Rattle.fwd_session.specs.ServerAcks.{Accepted, evidence_of}
@@ -162,8 +163,9 @@ module _ (l : Lane) (v : ℕ) (s : Option SessionHistory) where
         ≡ with_place w t (with_output (with_place v s l) o)
     both_places o t = ap (λ ss. record l { output = o; sessions = ss }) (set-set l.sessions v w s t apart)
 
-    take : (now : ℕ) → IsBeside (with_place v s) (λ l. steps.take histories l w now) l
-    take now =
+    take : (wanted : Wanted) (now : ℕ)
+        → IsBeside (with_place v s) (λ l. steps.take histories l w wanted now) l
+    take wanted now =
         sought {g = λ (x : Worker SessionHistory). x} _ _ worker_here (λ x e.
         checked NotNow {b = is_some x.taken || steps.is_full histories x.session} refl (λ none. goes refl (refl, tt)))
 
@@ -361,8 +363,8 @@ module _ (p : Change) (h : History) where
       at_output o (λ l. steps.choose histories l w now) (one_named (part.Output o) (part_of p) apart) (λ l v s is. choose l v s w now)
   beside (event.Up o w server salt now) apart one spares =
       at_session o w (λ c. steps.up histories c server salt now) (one_named (part.Session o w) (part_of p) apart) (λ l here. spares o w l (named_alone (part.Session o w)) here)
-  beside (event.Take o w now) apart one spares =
-      at_output_and_worker o w (λ l. steps.take histories l w now) (two_named (part.Output o) (part.Session o w) (part_of p) apart) (λ l v s differs. take l v s w differs now)
+  beside (event.Take o w now wanted) apart one spares =
+      at_output_and_worker o w (λ l. steps.take histories l w wanted now) (two_named (part.Output o) (part.Session o w) (part_of p) apart) (λ l v s differs. take l v s w differs wanted now)
   beside (event.Load o w now) apart one spares =
       at_session o w (λ c. steps.load histories now) (one_named (part.Session o w) (part_of p) apart) (λ l here. spares o w l (named_alone (part.Session o w)) here)
   beside (event.Wrote o w count) apart one spares =

@@ -7,9 +7,10 @@ use Rattle.fwd_match.specs.Patterns.{route}
 use Rattle.fwd_modes.specs.declared.origin.Origin.{Origin}
 use Rattle.fwd_source.specs.History.{Setup, SourceHistory, opened, opening_text, waiting}
 use Rattle.fwd_chunks.specs.declared.flush.FlushKind.{FlushKind}
+use Rattle.fwd_chunks.specs.declared.wanted.Wanted.{Wanted}
 use Rattle.fwd_chunks.specs.declared.fault.AdmitError.{AdmitError}
 use Rattle.fwd_chunks.specs.declared.fault.AdmitError.TheVariants.{Full, NumbersSpent, Memory}
-use Rattle.fwd_chunks.specs.History.{looks, given, flushes, takes}
+use Rattle.fwd_chunks.specs.History.{looks, given_for, flushes, takes}
 use Rattle.fwd_session.specs.ServerAcks.{evidence_of}
 use Rattle.fwd_session.specs.History.{SessionHistory, unloads}
 use Rattle.fwd_book.specs.History.{tells_due, forgets_of}
@@ -252,15 +253,15 @@ module _ (h : History) (sane : IsSane h) where
       to {a = answer.Forgot (histories.owed l id)}
       (turns (event.Forget id o) h o l here next (named_second (part.Connection id) (part.Output o)) (λ w none. refl))
 
-  take : (o w now : ℕ) (l : Lane) → slice_get h.lanes o ≡ Some l
-      → Onward (LaneLeads (event.Take o w now) h o) (steps.take histories l w now)
-  take o w now l here =
+  take : (o w now : ℕ) (wanted : Wanted) (l : Lane) → slice_get h.lanes o ≡ Some l
+      → Onward (LaneLeads (event.Take o w now wanted) h o) (steps.take histories l w wanted now)
+  take o w now wanted l here =
       let b = l.output.buffer in
-      let next : OutputHistory = record (l.output) { buffer = takes b w now } in
+      let next : OutputHistory = record (l.output) { buffer = takes b w wanted now } in
       past_found NoSuch {x = histories.worker_at l w} (λ x at.
-      past NotNow {b = is_some x.taken || steps.is_full histories x.session} (λ none. to {a = chunk_answer (histories.given l now)}
-      (turns (event.Take o w now) h o l here next (named_first (part.Output o) (part.Session o w))
-      (λ v others. ap (loads_of b) (others_carry w v (given (looks b now)) b.carried (other_named o v w others))))))
+      past NotNow {b = is_some x.taken || steps.is_full histories x.session} (λ none. to {a = chunk_answer (histories.given l wanted now)}
+      (turns (event.Take o w now wanted) h o l here next (named_first (part.Output o) (part.Session o w))
+      (λ v others. ap (loads_of b) (others_carry w v (given_for (looks b now) wanted) b.carried (other_named o v w others))))))
 
   settle : (o w : ℕ) (l : Lane) → slice_get h.lanes o ≡ Some l → IsSaneLane l
       → Onward (LaneLeads (event.Settle o w) h o) (steps.settle histories l w)
@@ -345,7 +346,7 @@ module _ (h : History) (sane : IsSane h) where
   event_leads (event.Flush o now kind) = at_output (event.Flush o now kind) o (λ l. steps.flush histories l now kind) (λ l here own. flush o now kind l here)
   event_leads (event.Choose o w now) = at_output (event.Choose o w now) o (λ l. steps.choose histories l w now) (λ l here own. choose o w now l here)
   event_leads (event.Up o w server salt now) = at_session (event.Up o w server salt now) o w (λ l. steps.up histories l.config server salt now) (named_alone (part.Session o w))
-  event_leads (event.Take o w now) = at_output (event.Take o w now) o (λ l. steps.take histories l w now) (λ l here own. take o w now l here)
+  event_leads (event.Take o w now wanted) = at_output (event.Take o w now wanted) o (λ l. steps.take histories l w wanted now) (λ l here own. take o w now wanted l here)
   event_leads (event.Load o w now) = at_session (event.Load o w now) o w (λ l. steps.load histories now) (named_alone (part.Session o w))
   event_leads (event.Wrote o w count) = at_session (event.Wrote o w count) o w (λ l x. steps.at_session histories x (steps.wrote histories count)) (named_alone (part.Session o w))
   event_leads (event.Heard o w bytes) = at_session (event.Heard o w bytes) o w (λ l x. steps.at_session histories x (steps.heard histories bytes)) (named_alone (part.Session o w))

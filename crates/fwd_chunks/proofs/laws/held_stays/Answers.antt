@@ -8,7 +8,7 @@ pub returns-clause-flushes : goal.returns-clause-flushes
 returns-clause-flushes c b now kind tag s own h = (flushes-stays b now kind).held tag s own h
 
 pub returns-clause-takes : goal.returns-clause-takes
-returns-clause-takes c b worker now tag s own h = (takes-stays b worker now).held tag s own h
+returns-clause-takes c b worker wanted now tag s own h = (takes-stays b worker wanted now).held tag s own h
 
 pub returns-clause-frees : goal.returns-clause-frees
 returns-clause-frees c b number loss tag s own h = (frees-stays b number loss).held tag s own h
@@ -26,7 +26,7 @@ pub returns-clause-gone_flushes : goal.returns-clause-gone_flushes
 returns-clause-gone_flushes c b now kind n h = (flushes-stays b now kind).gone n h
 
 pub returns-clause-gone_takes : goal.returns-clause-gone_takes
-returns-clause-gone_takes c b worker now n h = (takes-stays b worker now).gone n h
+returns-clause-gone_takes c b worker wanted now n h = (takes-stays b worker wanted now).gone n h
 
 pub returns-clause-gone_frees : goal.returns-clause-gone_frees
 returns-clause-gone_frees c b number loss n h = (frees-stays b number loss).gone n h

@@ -14,8 +14,8 @@ pub returns-clause-closing : goal.returns-clause-closing
 returns-clause-closing c setting h now kind is = closing-live h now kind (reached-sane setting h is)
 
 pub returns-clause-given : goal.returns-clause-given
-returns-clause-given c setting h fits is =
-    load-live h (subst (λ s. s.limits.retry_max < 2 ^ 64) (sym (reached-setting setting h is)) fits) (reached-sane setting h is)
+returns-clause-given c setting h wanted fits is =
+    load-live h wanted (subst (λ s. s.limits.retry_max < 2 ^ 64) (sym (reached-setting setting h is)) fits) (reached-sane setting h is)
 
 pub returns-clause-carried : goal.returns-clause-carried
 returns-clause-carried c setting h number is = carried-live h number (reached-sane setting h is)

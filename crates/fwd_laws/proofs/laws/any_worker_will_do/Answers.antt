@@ -5,4 +5,4 @@ pub returns-clause-next : goal.returns-clause-next
 returns-clause-next c own p q same = next-alike own p q same
 
 pub returns-clause-taker : goal.returns-clause-taker
-returns-clause-taker c p v w now = any-worker p v w now
+returns-clause-taker c p v w wanted now = any-worker p v w wanted now

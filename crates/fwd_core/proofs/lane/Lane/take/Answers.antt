@@ -27,7 +27,7 @@ invariant_of-self-2 c =
     let none : x.taken ≡ None = ap (λ (z : Worker LiveSession). z.taken) (sym same) ∙ free.0 in
     let gets = c.set_taken.ensures ∙ ap (λ f. record { taken = f; session = x.session }) c.in_ok-found.ensures.given in
     subst (λ d. AreHeld d (slice_set workers.items place c.set_taken.new.self)) (sym (ap (λ o. o.buffer) c.in_ok-found.ensures.ok))
-    (held-takes b workers.items place c.args.worker c.args.now x c.set_taken.new.self c.is_sound.ensures.chunks c.self.invariant here none gets)
+    (held-takes b workers.items place c.args.worker c.args.wanted c.args.now x c.set_taken.new.self c.is_sound.ensures.chunks c.self.invariant here none gets)
 
 pub returns-clause-answer : goal.returns-clause-answer
 returns-clause-answer c =
@@ -42,8 +42,8 @@ returns-clause-answer c =
     let here_w : slice_get workers.items c.args.worker ≡ Some x = subst (λ n. slice_get workers.items n ≡ Some x) c.from-place.ensures here in
     let free = ap (λ (z : Worker LiveSession). is_some z.taken || steps.is_full lives z.session) (sym same) ∙ (sym c.is_full.ensures ∙ c.if-is_full.false) in
     c.told_of-answer.ensures ∙ ap chunk_answer c.in_ok-found.ensures.given
-    ∙ sym (ap answer_of (take_is (record { config = c.self.inside.config; output = c.self.inside.output; workers = workers.items }) c.args.worker c.args.now x here_w free))
-    ∙ ap (λ l. answer_of (steps.take lives l c.args.worker c.args.now)) c.self.view_is
+    ∙ sym (ap answer_of (take_is (record { config = c.self.inside.config; output = c.self.inside.output; workers = workers.items }) c.args.worker c.args.wanted c.args.now x here_w free))
+    ∙ ap (λ l. answer_of (steps.take lives l c.args.worker c.args.wanted c.args.now)) c.self.view_is
 
 pub returns-clause-next : goal.returns-clause-next
 returns-clause-next c =
@@ -59,8 +59,8 @@ returns-clause-next c =
     let free = ap (λ (z : Worker LiveSession). is_some z.taken || steps.is_full lives z.session) (sym same) ∙ (sym c.is_full.ensures ∙ c.if-is_full.false) in
     let gets = c.set_taken.ensures ∙ ap (λ f. record { taken = f; session = x.session }) c.in_ok-found.ensures.given in
     (λ i. record { config = c.self.inside.config; output = c.in_ok-found.ensures.ok i; workers = slice_set workers.items (c.from-place.ensures i) (gets i) })
-    ∙ sym (ap (state_of (record { config = c.self.inside.config; output = c.self.inside.output; workers = workers.items })) (take_is (record { config = c.self.inside.config; output = c.self.inside.output; workers = workers.items }) c.args.worker c.args.now x here_w free))
-    ∙ ap (λ l. state_of l (steps.take lives l c.args.worker c.args.now)) c.self.view_is
+    ∙ sym (ap (state_of (record { config = c.self.inside.config; output = c.self.inside.output; workers = workers.items })) (take_is (record { config = c.self.inside.config; output = c.self.inside.output; workers = workers.items }) c.args.worker c.args.wanted c.args.now x here_w free))
+    ∙ ap (λ l. state_of l (steps.take lives l c.args.worker c.args.wanted c.args.now)) c.self.view_is
 
 pub set_taken-requires-clause-none : goal.set_taken-requires-clause-none
 set_taken-requires-clause-none c =

@@ -13,4 +13,4 @@ returns-clause-next c =
     let l = c.index_mut.result.now in
     let size : c.len.result ≡ length lanes.items = c.len.ensures ∙ lanes.ok.0 in
     let here : slice_get lanes.items c.from-place.result ≡ Some l = slice_get_read lanes.items c.len.result c.from-place.result l size c.if-place-len.false c.index_mut.ensures.value in
-    on_ok_weaker c.take.result (λ d. lane_done _ c.args.self.now c.self.view_is c.args.output c.from-place.result c.from-place.ensures l c.take.new.self here (λ r m. steps.take lives m c.args.worker c.args.now) d) c.take.ensures.next
+    on_ok_weaker c.take.result (λ d. lane_done _ c.args.self.now c.self.view_is c.args.output c.from-place.result c.from-place.ensures l c.take.new.self here (λ r m. steps.take lives m c.args.worker c.args.wanted c.args.now) d) c.take.ensures.next
