@@ -285,15 +285,6 @@ times_lost (Some l) = l.count
 abbrev pub live_free_chunk : Chunk → FreeChunk
 live_free_chunk c = record { number = c.number; losses = times_lost c.losses }
 
--- how often the chunk was lost; one that is not there never was
-abbrev pub losses_in : Option Chunk → ℕ
-losses_in None = 0
-losses_in (Some c) = times_lost c.losses
-
--- how often the chunk of a number was lost
-abbrev pub live_losses : LiveBuffer → ℕ → ℕ
-live_losses b number = losses_in (find (is_at number) b.chunks)
-
 -- what a worker has under a number, if one has it
 abbrev pub live_carried : LiveBuffer → ℕ → Option CarriedChunk
 live_carried b number =

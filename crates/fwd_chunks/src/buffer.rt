@@ -49,7 +49,6 @@ ghost use Rattle.fwd_chunks.specs.Live.{
   live_free_chunk,
   live_takes,
   live_carried_chunk,
-  live_losses,
   live_settles,
   live_frees,
   live_counts,
@@ -526,17 +525,6 @@ impl Buffer {
                 let name = chunk_name(&self.run, self.output, chunk.number);
                 chunk.is_taken() && carried.is(chunk, &name)
             }
-        }
-    }
-
-    /// How often the chunk was lost before a worker took it, where 65 stands for every greater
-    /// count. A chunk that is not in this buffer was never lost.
-    pub fn losses(&self, carried: &Carried) -> u8
-        ensures { result ≡ live_losses self.now carried.now.number }
-    {
-        match self.index.get(carried.number(), carried.key()) {
-            None => 0,
-            Some(chunk) => chunk.times_lost(),
         }
     }
 

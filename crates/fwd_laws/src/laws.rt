@@ -55,8 +55,8 @@ pub fn own_events_are_carried()
 
 /// No event of the relay gives back one of a worker's chunks and leaves it another: where nothing
 /// is settled, and the worker has a chunk afterwards, it has each that it had before. An output's
-/// own events let it be (`End` with that chunk alone), and a worker's thread does it, where it
-/// takes chunks ahead.
+/// own events let it be (`End` with that chunk alone). No worker's thread does it: what is not for
+/// its use it does not take.
 pub fn nothing_is_given_back_alone()
     ensures { (config : Config) (h : History) (e : Event) (o w a b : ℕ) (p q : OutputHistory) →
         IsReached config h → output_at h o ≡ Some p →

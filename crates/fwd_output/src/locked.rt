@@ -34,7 +34,6 @@ ghost use Rattle.fwd_chunks.specs.Live.{
   live_given,
   live_carried_chunk,
   live_looks,
-  live_losses,
   live_takes,
 };
 ghost use Rattle.fwd_chunks.specs.Soundness.{IsSound};
@@ -84,8 +83,7 @@ use crate::collecting::{Collected, receipts_of, shows};
 use crate::lost_at::LostAt;
 use crate::paged_output::PagedOutput;
 use crate::server_order::ServerOrder;
-use crate::server_set::ServerSet;
-use crate::server_view::{PickedChunk, ServerView};
+use crate::server_view::ServerView;
 use crate::tally::Tally;
 use crate::ticket::Ticket;
 pub use closing::Closing;
@@ -378,49 +376,6 @@ impl<A: Tally, S: Tally> Locked<A, S> {
     {
         let _ = seat;
         self.state.take(alloc, worker, now)
-    }
-
-    /// The same, with how often the chunk was lost before.
-    pub fn pick(
-        &mut self,
-        alloc: Global,
-        seat: &mut S::Seat,
-        worker: u16,
-        now: u64,
-    ) -> Result<Option<PickedChunk>, AllocError>
-        ensures given { IfOk result (λ picked. option_map (λ p. p.chunk) picked ≡ option_map
-            (live_carried_chunk self.old.output.buffer)
-            (live_given (live_looks self.old.output.buffer now))) }
-        ensures losses { IfOk result (λ picked. IfSome picked (λ p.
-            p.losses ≡ live_losses self.new.output.buffer p.chunk.number)) }
-        ensures ok { OnOk result (self.new ≡ locked_with self.old (record (self.old.output) {
-          buffer = live_takes self.old.output.buffer worker wanted.Any now;
-        })) }
-        ensures err { OnErr result (self.new ≡ self.old) }
-        ensures same { seat.new ≡ seat.old }
-    {
-        match self.take(alloc, seat, worker, now)? {
-            None => Ok(None),
-            Some(chunk) => {
-                let losses = self.state.now().losses(&chunk);
-                let (lost_at, elsewhere) = self.way_of(chunk.number(), worker, now);
-                Ok(Some(PickedChunk {
-                    chunk,
-                    losses,
-                    lost_at,
-                    elsewhere,
-                }))
-            }
-        }
-    }
-
-    /// Where a chunk was lost, and the server elsewhere for it at a moment (milliseconds), if it
-    /// was lost and there is one.
-    fn way_of(&self, chunk: u64, worker: u16, now: u64) -> (ServerSet, Option<u16>) {
-        match (self.lost_at.of(chunk), &self.order) {
-            (Some(lost_at), Some(order)) => (lost_at, order.elsewhere(worker, &lost_at, now)),
-            _ => (ServerSet::none(), None),
-        }
     }
 
     /// A server could not be had for a chunk. If that was lost before, it counts as lost there too.

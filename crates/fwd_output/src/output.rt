@@ -42,7 +42,6 @@ ghost use Rattle.fwd_chunks.specs.Live.{
   live_closing,
   live_flushes,
   live_looks,
-  live_losses,
   live_spans,
   live_frees,
   live_counts,
@@ -329,14 +328,6 @@ impl OutputState {
         ensures { result ≡ live_trusted self.now.servers worker }
     {
         self.servers.trusted(worker)
-    }
-
-    /// How often the chunk was lost before a worker took it, where 65 stands for every greater
-    /// count. A chunk that is not in this output was never lost.
-    pub fn losses(&self, carried: &Carried) -> u8
-        ensures { result ≡ live_losses self.now.buffer carried.now.number }
-    {
-        self.buffer.losses(carried)
     }
 
     /// A server acknowledged the chunk: its entries are settled, what was acknowledged is kept for

@@ -1,28 +1,26 @@
-//! What a worker sees of its output before it takes a chunk, and the chunk that it takes.
+//! What a worker looks for a chunk for, and what it sees of its output before it takes one.
 
-ghost use Rattle.std.specs.Prelude.{◌≡◌, nat_lt, if◌then◌else◌};
-ghost use Rattle.fwd_output.specs.Looks.{may_take};
-ghost use Rattle.fwd_output.specs.Elsewhere.{
-  away_from,
-  has_server,
-  or_try,
-  server_with,
-  way_over,
-};
+ghost use Rattle.std.specs.Prelude.{◌≡◌, ◌&&◌, not, if◌then◌else◌};
+ghost use Rattle.fwd_output.specs.Looks.{is_server, may_look, takes};
+ghost use Rattle.fwd_output.specs.Elsewhere.{has_server, or_try, server_with, way_over};
 
-use crate::server_set::ServerSet;
-use fwd_chunks::Carried;
+use crate::offer::{Found, Offer};
 use std::alloc::AllocError;
 
-/// What a worker takes a free chunk for.
+/// What a worker looks for a free chunk for.
 #[derive(Clone, Copy)]
 pub enum ChunkUse {
     /// To begin a session with it.
     Begin,
-    /// For its session, which has no other.
-    Follow,
+    /// For its session with this server, which has no other, whatever server is to be tried.
+    Keep(u16),
+    /// For its session with this server, which has no other, or for another server that is to be
+    /// tried in its place.
+    Follow(u16),
     /// For its session with this server, beside those that it has.
     Join(u16),
+    /// To see whether there is one to ask this server with, which is not the one to try.
+    Ask(u16),
 }
 
 /// How a worker looks for a free chunk.
@@ -30,7 +28,7 @@ pub enum ChunkUse {
 pub struct ChunkSearch {
     /// The worker's number.
     pub worker: u16,
-    /// What it takes one for.
+    /// What it looks for one for.
     pub chunk_use: ChunkUse,
     /// For how long chunks that are due are left open, in milliseconds: more entries may join them.
     pub leaves_open: u64,
@@ -68,93 +66,81 @@ impl ServerView {
 
     /// The server that a worker without a session begins one with for a chunk, where this is the
     /// one to try.
-    pub fn server_with(self, picked: &PickedChunk, server: u16) -> u16
-        ensures { result ≡ server_with picked.now.losses picked.now.elsewhere self.is_doubted
+    pub fn server_with(self, offer: &Offer, server: u16) -> u16
+        ensures { result ≡ server_with offer.now.losses offer.now.elsewhere self.is_doubted
             self.trusted server }
     {
-        match picked.elsewhere {
+        match offer.elsewhere {
             Some(elsewhere) => elsewhere,
-            None if picked.was_lost() => self.server_for_lost(server),
+            None if offer.was_lost() => self.server_for_lost(server),
             None => server,
         }
     }
 
-    /// The server that the worker is to go over to from its own with a chunk, if that is another. A
+    /// The server that the worker is to go over to from its own for a chunk, if that is another. A
     /// chunk that was lost before stays with the session that is there, unless it was lost there
-    /// and may go elsewhere. A session that works is left only with a chunk in hand: an idle worker
-    /// connects to nobody, and a dead primary costs a try and no chunk.
-    pub fn way_of(self, picked: &PickedChunk, own: u16) -> Option<u16>
-        ensures { result ≡ way_over picked.now.losses (has_server picked.now.lost_at.members own)
-            picked.now.elsewhere self.server own }
+    /// and may go elsewhere. A session that works is left only for a chunk: an idle worker connects
+    /// to nobody, and a dead primary costs a try and no chunk.
+    pub fn way_of(self, offer: &Offer, own: u16) -> Option<u16>
+        ensures { result ≡ way_over offer.now.losses (has_server offer.now.lost_at.members own)
+            offer.now.elsewhere self.server own }
     {
-        if picked.was_lost() {
-            return picked.away_from(own);
+        if offer.was_lost() {
+            return offer.away_from(own);
         }
         let server = self.server?;
         if server == own { None } else { Some(server) }
     }
 
-    /// Whether the worker takes a chunk for this use, if one is free: what another worker claims is
-    /// left to it. A session is begun only where there is a server to try, and a chunk is added to
-    /// others only where their server is the one to try, and known to work.
-    pub fn may_take(self, chunk_use: ChunkUse) -> bool
-        ensures { result ≡ may_take self chunk_use }
+    /// Whether the worker looks for a chunk for this use: what another worker claims is left to it,
+    /// unless a session was sought for it. A session is begun only where there is a server to try,
+    /// a chunk is added to others only where their server is the one to try, and known to work, and
+    /// a server is asked once more only where that is another.
+    pub fn may_look(self, chunk_use: ChunkUse) -> bool
+        ensures { result ≡ may_look self chunk_use }
     {
-        !self.is_claimed
-            && match chunk_use {
-                ChunkUse::Begin => self.server.is_some(),
-                ChunkUse::Follow => true,
-                ChunkUse::Join(own) => self.server == Some(own) && !self.is_doubted,
-            }
+        match chunk_use {
+            ChunkUse::Begin => !self.is_claimed && self.server.is_some(),
+            ChunkUse::Keep(_) => true,
+            ChunkUse::Follow(_) => !self.is_claimed,
+            ChunkUse::Join(own) => !self.is_claimed && self.trusts(own),
+            ChunkUse::Ask(server) => !self.is_claimed && self.server != Some(server),
+        }
+    }
+
+    /// Whether the worker takes this free chunk for its use. One that goes to another server than
+    /// its session's, or that was lost where it would join others, stays free, and so does one that
+    /// is only to be seen.
+    pub fn takes(self, chunk_use: ChunkUse, offer: &Offer) -> bool
+        ensures { result ≡ takes self chunk_use offer.now }
+    {
+        match chunk_use {
+            ChunkUse::Begin => true,
+            ChunkUse::Keep(own) => offer.away_from(own).is_none(),
+            ChunkUse::Follow(own) => self.way_of(offer, own).is_none(),
+            ChunkUse::Join(_) => !offer.was_lost(),
+            ChunkUse::Ask(_) => false,
+        }
     }
 
     /// Whether the worker's own server is the one that it is to try, and is known to work.
-    pub fn trusts(self, own: u16) -> bool {
+    fn trusts(self, own: u16) -> bool
+        ensures { result ≡ (is_server self.server own && not self.is_doubted) }
+    {
         self.server == Some(own) && !self.is_doubted
     }
 
     /// Whether the worker's own server is the one that it is to try, and is not known to work.
-    pub fn doubts(self, own: u16) -> bool {
+    pub(crate) fn doubts(self, own: u16) -> bool
+        ensures { result ≡ (is_server self.server own && self.is_doubted) }
+    {
         self.server == Some(own) && self.is_doubted
     }
 }
 
-/// What a worker sees of its output, and the chunk that it took by that. It must be spent.
+/// What a worker sees of its output, and what it found by that. A chunk that it took must be spent.
 pub struct Look {
     pub view: ServerView,
-    /// The chunk, if the worker took one. It is an error that memory was refused for one.
-    pub picked: Result<Option<PickedChunk>, AllocError>,
-}
-
-/// A chunk that a worker took. It must be spent.
-pub struct PickedChunk {
-    pub chunk: Carried,
-    /// How often it was lost before, where 65 stands for every greater count.
-    pub losses: u8,
-    /// Where it was lost in this round of its servers.
-    pub lost_at: ServerSet,
-    /// A server that may be tried, and where it was not lost, if it was lost at another and there
-    /// is one.
-    pub elsewhere: Option<u16>,
-}
-
-impl PickedChunk {
-    /// Whether the chunk was lost before.
-    pub fn was_lost(&self) -> bool
-        ensures { result ≡ nat_lt 0 self.now.losses }
-    {
-        0 < self.losses
-    }
-
-    /// The server that the chunk goes to in place of this one, if it was lost here and may go
-    /// elsewhere.
-    pub fn away_from(&self, own: u16) -> Option<u16>
-        ensures { result ≡ away_from (has_server self.now.lost_at.members own) self.now.elsewhere }
-    {
-        if self.lost_at.has(own) {
-            self.elsewhere
-        } else {
-            None
-        }
-    }
+    /// What it found. It is an error that memory was refused for the chunk that it was to take.
+    pub found: Result<Found, AllocError>,
 }

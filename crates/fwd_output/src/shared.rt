@@ -23,14 +23,15 @@ ghost use Rattle.fwd_chunks.specs.Soundness.{IsSound};
 ghost use Rattle.fwd_chunks.specs.TagCounts.{AddsUp, IsSnapshot, live_report};
 ghost use Rattle.fwd_session.specs.ServerAcks.{IsServerAck};
 ghost use Rattle.fwd_book.specs.History.{BookSetting};
-ghost use Rattle.fwd_output.specs.Looks.{may_take};
+ghost use Rattle.fwd_output.specs.Looks.{IsForUse, may_look};
 ghost use Rattle.fwd_output.specs.RunEvents.{AreGivenAfter};
 ghost use Rattle.fwd_output.specs.Seats.{parts_of, counts_of};
 ghost use Rattle.fwd_output.specs.Tickets.{AreGiven, IsRight, ticket_of};
 
 use crate::collecting::Collected;
 use crate::locked::{Closing, Locked};
-use crate::server_view::{ChunkSearch, Look, PickedChunk, ServerView};
+use crate::offer::Found;
+use crate::server_view::{ChunkSearch, Look, ServerView};
 use crate::tally::{Ledgered, Seat, Tally};
 use crate::ticket::Ticket;
 use fwd_book::AdmitRefusal;
@@ -172,23 +173,9 @@ impl<A: Tally, S: Tally> SharedOutput<A, S> {
         self.lock.lock(rt).take(alloc, seat, worker, now)
     }
 
-    /// The same, with how often the chunk was lost before.
-    pub fn pick<R: Wait>(
-        &self,
-        rt: &R,
-        alloc: Global,
-        seat: &mut S::Seat,
-        worker: u16,
-        now: u64,
-    ) -> Result<Option<PickedChunk>, AllocError>
-        ensures { seat.new ≡ seat.old }
-    {
-        self.lock.lock(rt).pick(alloc, seat, worker, now)
-    }
-
-    /// What a worker sees at a moment (milliseconds); and where it may take a chunk for its use, the
-    /// open chunks are closed that are due and not left open, and it is given the free chunk of the
-    /// least number, if there is one. The only error is out of memory.
+    /// What a worker sees at a moment (milliseconds); and where it looks for a chunk for its use,
+    /// the open chunks are closed that are due and not left open, and it takes the free chunk that
+    /// it is offered where that is for this use. The only error is out of memory.
     pub fn look_for<R: Wait>(
         &self,
         rt: &R,
@@ -197,7 +184,10 @@ impl<A: Tally, S: Tally> SharedOutput<A, S> {
         search: ChunkSearch,
         now: u64,
     ) -> Look
-        ensures leaves { may_take result.view search.chunk_use ≡ false → result.picked ≡ Ok None }
+        ensures leaves { may_look result.view search.chunk_use ≡ false
+            → result.found ≡ Ok Found.Nothing }
+        ensures fits { IfOk result.found (λ found.
+            IsForUse found result.view search.chunk_use) }
         ensures same { seat.new ≡ seat.old }
     {
         self.lock.lock(rt).look_for(alloc, seat, search, now)

@@ -1,14 +1,9 @@
 -- What one turn of a session comes to.
-use Rattle.std.proofs.Common.{arith, ◌≡◌, ◌≢◌, ◌≤◌, ◌+◌, ◌++◌, inl, inr, ℕ, List, [], ◌∷◌, zero, suc, ◌<◌, take, length, Result, Ok, Err, Some, None, refl, sym, ap, subst, ◌∙◌, append_assoc, take-take, IfOk}
-use Rattle.std.proofs.lemmas.List.{append-nil, length-take, take_all}
+use Rattle.std.proofs.Common.{arith, ◌≡◌, ◌≢◌, ◌≤◌, ◌+◌, ◌++◌, inl, inr, ℕ, List, [], ◌∷◌, zero, suc, take, length, Result, Ok, Err, Some, None, refl, sym, ap, subst, ◌∙◌, append_assoc, take-take}
+use Rattle.std.proofs.lemmas.List.{append-nil}
 use Rattle.std.proofs.lemmas.List.Sums.{sum_by_push}
 use Rattle.std.proofs.lemmas.Grind.{flat_map-append}
-use Rattle.std.proofs.lemmas.Option.{same_Some}
-use Rattle.std.proofs.Math.Seq.{take-append_seam, take-nil}
-use Rattle.std.specs.Prelude.{map, slice_get}
-use Rattle.std.specs.Borrow.{Bor}
-use Rattle.std.specs.List.{concat}
-use Rattle.fwd_chunks.specs.Lending.{AreSome}
+use Rattle.std.proofs.Math.Seq.{take-nil}
 use Rattle.fwd_session.specs.declared.told.SessionHeard.{SessionHeard}
 use Rattle.fwd_session.specs.Live.{LiveSession, session_sends}
 use Rattle.fwd_environment.proofs.Offering.{write-some}
@@ -18,7 +13,7 @@ use Rattle.fwd_environment.specs.declared.link.Read.TheVariants as read
 use Rattle.fwd_environment.specs.declared.link.LinkFault.{LinkFault}
 use Rattle.fwd_workers.specs.declared.serve.Served.{Served}
 use Rattle.fwd_workers.specs.declared.serve.Served.TheVariants as served
-use Rattle.fwd_environment.specs.Links.{Call, DidWrite, HasOffered, IsOffer, read_into, write_of, taken_by, given_by, failures_by, taken_in, given_in, failures_in}
+use Rattle.fwd_environment.specs.Links.{Call, DidWrite, IsOffer, read_into, write_of, taken_by, given_by, failures_by, taken_in, given_in, failures_in}
 use Rattle.fwd_workers.specs.Served.{Seen, seen_in, Exchange, Breaks, Reads, calls_of, IsHeard, ComesOfRead, ComesOf, IsTurn, Sends, HasHeard, IsServed}
 
 -- what is seen of one call more

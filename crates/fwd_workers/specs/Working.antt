@@ -170,8 +170,7 @@ HasTakenFirst (state.Loaded upstream) told s now before = ⊥
 HasTakenFirst (state.Settled upstream) told s now before = ⊥
 
 -- A worker whose session stands: it takes a chunk once that session is ready, for just that
--- session, or for one that begins in its place; or it has one that begins in its place, and no
--- chunk. Else it goes on standing. Where the session ends the worker has nothing, and a server that
+-- session; or it has one that begins in its place, and no chunk. Else it goes on standing. Where the session ends the worker has nothing, and a server that
 -- owed nothing is not said to be lost.
 abbrev pub HasTakenNext : {L : Type 0} {g : _} → WorkerState L g → Option WorkerEvent → LiveSession
     → (now : ℕ) → (before : List Call) → (ℕ → Setup) → Type 0
@@ -182,7 +181,7 @@ HasTakenNext (state.Standing free) told s now before setups =
     (free.upstream.ending ≡ None) × Lasts s free.upstream.session now before
 HasTakenNext (state.Took free chunk) told s now before setups =
     (free.upstream.ending ≡ None) × (live_is_ready free.upstream.session ≡ true)
-    × (Lasts s free.upstream.session now before ⊎ Begins setups free.upstream.session)
+    × Lasts s free.upstream.session now before
 HasTakenNext (state.Sought free) told s now before setups =
     (free.upstream.ending ≡ None) × Begins setups free.upstream.session
 HasTakenNext state.Seeking told s now before setups = ⊥

@@ -1,7 +1,6 @@
 //! The workers that send the chunks of outputs to servers.
 #![tactic(auto)]
 
-mod choosing;
 mod denial;
 mod doubts;
 mod ending;

@@ -349,9 +349,9 @@ static RETURNS: [Life; 2] = [
         name: "a standby is left for its primary",
         requests: 2,
         tick: 250,
-        turns: 11,
-        meetings: &[None, Some(&[Act::Acks]), Some(&[Act::Acks])],
-        looks: [3000, 3001, 3002],
+        turns: 12,
+        meetings: &[None, Some(&[Act::Acks]), Some(&[Act::Silent, Act::Acks])],
+        looks: [3250, 3251, 3252],
         ..PLAIN
     },
     Life {

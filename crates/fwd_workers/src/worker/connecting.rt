@@ -7,7 +7,7 @@ ghost use Rattle.std.specs.Prelude.{
   None,
   Ok,
   Err,
-  false,
+  true,
   IfOk,
   IfErr,
   IfSome,
@@ -17,26 +17,51 @@ ghost use Rattle.std.specs.Prelude.{
 ghost use Rattle.std.specs.Arc.{arc_value};
 ghost use Rattle.fwd_handshake.specs.Draws.{hex_drawn};
 ghost use Rattle.fwd_session.specs.Live.{session_begins};
+ghost use Rattle.fwd_output.specs.Looks.{IsForUse, may_look};
+ghost use Rattle.fwd_output.specs.declared.offer.Offer.{Offer};
+ghost use Rattle.fwd_output.specs.declared.server_view.ServerView.{ServerView};
+ghost use Rattle.fwd_workers.specs.Choosing.{asked_of};
 ghost use Rattle.fwd_workers.specs.Doubting.{doubts_begin};
 ghost use Rattle.fwd_workers.specs.Endings.{unmet_news};
 ghost use Rattle.fwd_workers.specs.Working.{Begins, HasBegun, HasSought, setup_by};
 
 use super::Worker;
-use crate::choosing::open_server;
 use crate::ending::NoSession;
-use crate::next_chunk::{Found, unused};
+use crate::next_chunk::Sight;
 use crate::own_session::OwnSession;
 use crate::turn_context::{Outside, TurnContext};
 use crate::upstream::{IdleUpstream, WorkerState};
-use crate::upstream_end::{give_back, give_back_now};
+use crate::upstream_end::give_back_now;
 use crate::upstream_turn::free_upstream;
 use fwd_base::Bytes;
 use fwd_environment::{Clock, Hub, LinkFault};
 use fwd_handshake::draw_salt;
-use fwd_output::{ChunkUse, ServerView, Tally};
+use fwd_output::{ChunkUse, Found, ServerView, Tally};
 use fwd_session::{OwnedSalt, Session};
 use std::alloc::AllocError;
 use std::sync::{Arc, Wait};
+
+/// What a worker sees of its output that seeks a server.
+struct Seeking {
+    view: ServerView,
+    /// The server that is to be asked once more, if one is.
+    asks: Option<u16>,
+}
+
+/// The server that is to be asked once more, if what was found is a free chunk that does not go
+/// elsewhere.
+fn asked_by(found: Found, server: u16) -> Option<u16>
+    requires { (view : ServerView) × IsForUse found view (ChunkUse.Ask server) }
+    ensures asked { result ≡ asked_of found server }
+    ensures passed { IfSome result (λ asked. (asked ≡ server)
+        × ((offer : Offer) × (found ≡ Found.Passed offer))) }
+{
+    match found {
+        Found::Passed(offer) if offer.away_from(server).is_none() => Some(server),
+        Found::Passed(_) | Found::Nothing => None,
+        Found::Took(_picked) => unreachable!(),
+    }
+}
 
 impl Worker {
     /// Takes a chunk where there is a server to try, and begins a session with it. A server that is
@@ -53,14 +78,15 @@ impl Worker {
         ensures begun { HasBegun result (setup_by (arc_value self.old.login)
             (hex_drawn 0 4 self.old.rng) self.old.acks context.entry.now.now) }
     {
-        let Some(Found { view, picked }) = self.look_for(context, seat, ChunkUse::Begin) else {
-            return WorkerState::Idle;
+        let Sight { view, found } = self.look_for(context, seat, ChunkUse::Begin);
+        let picked = match found {
+            Found::Took(picked) => picked,
+            Found::Nothing | Found::Passed(_) => return WorkerState::Idle,
         };
-        let picked = self.fresh_for(context, seat, picked, view.is_doubted);
-        let Some(server) = open_server(view) else {
+        let Some(server) = view.server else {
             unreachable!()
         };
-        let server = view.server_with(&picked, server);
+        let server = view.server_with(&picked.offer, server);
         let chunk = self.note(picked);
         match self.meet(context, outside.hub, server) {
             Ok(free) => {
@@ -96,47 +122,47 @@ impl Worker {
         if context.out.counts(context.rt).held == 0 {
             return WorkerState::Idle;
         }
-        let server_view = context
-            .out
-            .server_view(context.rt, self.number, context.now);
-        if let Some(server) = self.to_ask(context, seat, server_view) {
+        let Seeking { view, asks } = self.to_ask(context, seat);
+        if let Some(server) = asks {
             return self.ask(context, outside, server);
         }
-        let Some(server) = server_view.server else {
+        let Some(server) = view.server else {
             return WorkerState::Seeking;
         };
-        match self.try_server(context, seat, outside, server_view.server_for_lost(server)) {
+        match self.try_server(context, seat, outside, view.server_for_lost(server)) {
             Some(free) => WorkerState::Sought(free),
             None => WorkerState::Seeking,
         }
     }
 
-    /// The server that is to be asked once more though its wait is not over, where a chunk is free
-    /// to ask it with. That chunk goes back until the session is ready, and any worker may take it.
-    /// No clause can see through the lock that one is free: it is tested.
+    /// What a worker sees that seeks a server, and the server that is to be asked once more though
+    /// its wait is not over, where a chunk is free to ask it with. That chunk stays free, for any
+    /// worker, until the session is ready. No clause can see through the lock that one is free: it
+    /// is tested.
     fn to_ask<A: Tally, S: Tally, R: Wait>(
         &mut self,
         context: &TurnContext<'_, A, S, R>,
         seat: &mut S::Seat,
-        server_view: ServerView,
-    ) -> Option<u16>
+    ) -> Seeking
         ensures same { seat.new ≡ seat.old }
         ensures kept { self.new ≡ record self.old { doubts = self.new.doubts } }
-        ensures asked { IfSome result (λ server. (self.old.doubts.ask ≡ Some server)
-            × (self.new.doubts.ask ≡ None) × (server_view.is_claimed ≡ false)) }
+        ensures asked { IfSome result.asks (λ server. (self.old.doubts.ask ≡ Some server)
+            × (self.new.doubts.ask ≡ None)
+            × (may_look result.view (ChunkUse.Ask server) ≡ true)) }
+        ensures none { result.asks ≡ None → self.new.doubts ≡ self.old.doubts }
     {
-        let server = self.doubts.ask?;
-        if server_view.is_claimed || server_view.server == Some(server) {
-            return None;
+        let Some(server) = self.doubts.ask else {
+            let view = context
+                .out
+                .server_view(context.rt, self.number, context.now);
+            return Seeking { view, asks: None };
+        };
+        let Sight { view, found } = self.look_for(context, seat, ChunkUse::Ask(server));
+        let asks = asked_by(found, server);
+        if asks.is_some() {
+            self.doubts.ask = None;
         }
-        let picked = self.next_chunk(context, seat, true)?;
-        let goes_elsewhere = picked.away_from(server).is_some();
-        give_back(context, seat, unused(self.alloc, picked));
-        if goes_elsewhere {
-            return None;
-        }
-        self.doubts.ask = None;
-        Some(server)
+        Seeking { view, asks }
     }
 
     /// A session begins with a server that is asked once more. Where none can be had, nothing more
@@ -161,7 +187,7 @@ impl Worker {
 
     /// A session begins with a server, without a chunk. A server that cannot be reached is lost,
     /// which is told.
-    fn try_server<A: Tally, S: Tally, H: Hub, C: Clock, R: Wait>(
+    pub(super) fn try_server<A: Tally, S: Tally, H: Hub, C: Clock, R: Wait>(
         &mut self,
         context: &TurnContext<'_, A, S, R>,
         seat: &mut S::Seat,
@@ -201,25 +227,6 @@ impl Worker {
     {
         self.event = why.event(server);
         self.last = self.last.or(Some(server));
-    }
-
-    /// A session with the server that the worker is to go over to, if there is one and it can be
-    /// had. That it is just that server no clause can see through the lock: it is tested. Its own
-    /// is left also where that works and is said to be lost, by another worker's session.
-    pub(super) fn go_over<A: Tally, S: Tally, H: Hub, C: Clock, R: Wait>(
-        &mut self,
-        context: &TurnContext<'_, A, S, R>,
-        seat: &mut S::Seat,
-        outside: &mut Outside<'_, H, C>,
-        to: Option<u16>,
-    ) -> Option<IdleUpstream<H::Line>>
-        ensures same { seat.new ≡ seat.old }
-        ensures begun { IfSome result (λ free. (free.upstream.ending ≡ None)
-            × Begins (setup_by (arc_value self.old.login) (hex_drawn 0 4 self.old.rng)
-            self.old.acks context.entry.now.now) free.upstream.session) }
-    {
-        let server = to?;
-        self.try_server(context, seat, outside, server)
     }
 
     /// A link to a server, and a session that begins on it at the turn's moment.

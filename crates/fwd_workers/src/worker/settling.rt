@@ -10,14 +10,14 @@ ghost use Rattle.fwd_workers.specs.Working.{HasAdded, HasGoneOn, HasLost, HasSet
 
 use super::Worker;
 use crate::ending::EndReason;
-use crate::next_chunk::{Found, unused};
+use crate::next_chunk::Sight;
 use crate::turn_context::TurnContext;
 use crate::upstream::{IdleUpstream, Upstream, UpstreamWithRoom, WorkerState};
-use crate::upstream_end::{give_back, lose_upstream, settle_upstream};
+use crate::upstream_end::{lose_upstream, settle_upstream};
 use crate::upstream_turn::{serve, to_end};
 use fwd_chunks::Carried;
 use fwd_environment::Link;
-use fwd_output::{ChunkUse, Tally};
+use fwd_output::{ChunkUse, Found, Tally};
 use std::sync::Wait;
 
 impl Worker {
@@ -92,8 +92,8 @@ impl Worker {
 
     /// Takes a chunk for a session that has others, where one more may be added, and the server is
     /// the one to try and known to work: else the worker waits until its chunks are acknowledged.
-    /// One that was lost before goes alone, so that what its server does about it is done to no
-    /// other. What another worker claims is left to it.
+    /// One that was lost before stays free until they are, and goes alone, so that what its server
+    /// does about it is done to no other. What another worker claims is left to it.
     fn add<A: Tally, S: Tally, L: Link, R: Wait>(
         &mut self,
         context: &TurnContext<'_, A, S, R>,
@@ -111,15 +111,17 @@ impl Worker {
             return WorkerState::Loaded(upstream);
         }
         let joins = ChunkUse::Join(upstream.session.server());
-        let Some(Found { view: _, picked }) = self.look_for(context, seat, joins) else {
-            return WorkerState::Loaded(upstream);
-        };
-        if picked.was_lost() {
-            give_back(context, seat, unused(self.alloc, picked));
-            self.doubts.alone = true;
-            return WorkerState::Loaded(upstream);
+        let Sight { view: _, found } = self.look_for(context, seat, joins);
+        match found {
+            Found::Nothing => WorkerState::Loaded(upstream),
+            Found::Passed(_) => {
+                self.doubts.alone = true;
+                WorkerState::Loaded(upstream)
+            }
+            Found::Took(picked) => {
+                WorkerState::Added(UpstreamWithRoom { upstream }, self.note(picked))
+            }
         }
-        WorkerState::Added(UpstreamWithRoom { upstream }, self.note(picked))
     }
 
     /// A chunk was settled: the worker goes on with those that the session still has. Without any

@@ -3,9 +3,8 @@
 ghost use Rattle.std.specs.Prelude.{◌≡◌, ◌⊎◌, Some, None, true, false, IfSome};
 ghost use Rattle.std.specs.Arc.{arc_value};
 ghost use Rattle.fwd_handshake.specs.Draws.{hex_drawn};
-ghost use Rattle.fwd_output.specs.Elsewhere.{away_from, has_server};
-ghost use Rattle.fwd_output.specs.Looks.{may_take};
-ghost use Rattle.fwd_workers.specs.Choosing.{is_better};
+ghost use Rattle.fwd_output.specs.Looks.{IsForUse};
+ghost use Rattle.fwd_workers.specs.Choosing.{HasGoneOver, HasStayed, IsKeptOrLeft};
 ghost use Rattle.fwd_workers.specs.Endings.{news_of, went_of};
 ghost use Rattle.fwd_workers.specs.Working.{
   HasGone,
@@ -17,92 +16,45 @@ ghost use Rattle.fwd_workers.specs.Working.{
 };
 
 use super::Worker;
-use crate::choosing::wants_fresh;
 use crate::denial::denial_in;
 use crate::ending::EndReason;
-use crate::next_chunk::{AHEAD, Found, fresh, fresh_for, look_for, pick, unused};
+use crate::next_chunk::{Sight, Way, look_for, way_of};
 use crate::turn_context::{Outside, TurnContext};
 use crate::upstream::{IdleUpstream, UpstreamWithRoom, WorkerState};
-use crate::upstream_end::{end_free, give_back};
+use crate::upstream_end::end_free;
 use crate::upstream_turn::{allow_close, ended, serve_free, to_end};
-use fwd_chunks::{Carried, FlushKind};
+use fwd_chunks::Carried;
 use fwd_environment::{Clock, Hub, Link, LossReason, WorkerEvent};
-use fwd_output::{ChunkUse, Leaving, PickedChunk, Tally};
+use fwd_output::{ChunkUse, Found, PickedChunk, Tally};
 use fwd_session::LoadFailed;
 use std::mem;
 use std::sync::Wait;
 
 impl Worker {
-    /// The next chunk, if there is one; where a server is to be tried that is not known to work,
-    /// one that was not lost before, if there is one. Only now are chunks closed that are due, so
+    /// What the worker finds for this use in its output. Only now are chunks closed that are due, so
     /// that entries go on joining them while all workers are at work, and none that is left open a
-    /// little longer. That it flushes what is due, and takes for this worker, no clause can see
-    /// through the lock: it is tested.
-    pub(super) fn next_chunk<A: Tally, S: Tally, R: Wait>(
-        &self,
-        context: &TurnContext<'_, A, S, R>,
-        seat: &mut S::Seat,
-        is_doubted: bool,
-    ) -> Option<PickedChunk>
-        ensures { seat.new ≡ seat.old }
-    {
-        let moment = context.now.saturating_sub(context.leaves_open);
-        context.out.flush(context.rt, moment, FlushKind::Due);
-        if is_doubted {
-            fresh(context, self.alloc, seat, self.number, AHEAD)
-        } else {
-            pick(context, self.alloc, seat, self.number)
-        }
-    }
-
-    /// The next chunk, if the worker may take one for this use, by what it sees of its output, and
-    /// one is free. Here, too, chunks are closed only now that are due. Looking, closing and taking
-    /// are one turn under the output's lock.
+    /// little longer. That it takes for this worker no clause can see through the lock: it is
+    /// tested.
     pub(super) fn look_for<A: Tally, S: Tally, R: Wait>(
         &self,
         context: &TurnContext<'_, A, S, R>,
         seat: &mut S::Seat,
         chunk_use: ChunkUse,
-    ) -> Option<Found>
-        ensures may { IfSome result (λ found. may_take found.view chunk_use ≡ true) }
+    ) -> Sight
+        ensures fits { IsForUse result.found result.view chunk_use }
         ensures same { seat.new ≡ seat.old }
     {
         look_for(context, self.alloc, seat, self.number, chunk_use)
-    }
-
-    /// The chunk that was taken; where a server is to be tried that is not known to work, in place
-    /// of one that was lost before one that was not, if there is one.
-    pub(super) fn fresh_for<A: Tally, S: Tally, R: Wait>(
-        &self,
-        context: &TurnContext<'_, A, S, R>,
-        seat: &mut S::Seat,
-        picked: PickedChunk,
-        is_doubted: bool,
-    ) -> PickedChunk
-        ensures either { (result ≡ picked)
-            ⊎ ((is_doubted ≡ true) × (is_better picked result ≡ true)) }
-        ensures same { seat.new ≡ seat.old }
-    {
-        if is_doubted {
-            fresh_for(context, self.alloc, seat, self.number, picked)
-        } else {
-            picked
-        }
     }
 
     /// A chunk that was taken, and how often it was lost is noted.
     pub(super) fn note(&mut self, picked: PickedChunk) -> Carried
         ensures chunk { result ≡ picked.chunk }
         ensures kept { self.new ≡ record self.old { doubts = self.new.doubts } }
-        ensures noted { self.new.doubts ≡ record self.old.doubts { losses = picked.losses } }
+        ensures noted { self.new.doubts ≡ record self.old.doubts { losses = picked.offer.losses } }
     {
-        let PickedChunk {
-            chunk,
-            losses,
-            lost_at: _,
-            elsewhere: _,
-        } = picked;
-        self.doubts.losses = losses;
+        let PickedChunk { chunk, offer } = picked;
+        self.doubts.losses = offer.losses;
         chunk
     }
 
@@ -170,45 +122,36 @@ impl Worker {
             return WorkerState::Sought(free);
         }
         context.out.claim(context.rt, context.now);
-        let is_doubted = context
-            .out
-            .is_doubted(context.rt, free.upstream.session.server());
-        match self.next_chunk(context, seat, is_doubted) {
-            Some(picked) => {
-                context.out.release(context.rt);
-                self.keep_or_leave(context, seat, free, picked)
-            }
-            None => WorkerState::Sought(free),
-        }
+        let own = ChunkUse::Keep(free.upstream.session.server());
+        let Sight { view: _, found } = self.look_for(context, seat, own);
+        self.keep_or_leave(context, free, found)
     }
 
-    /// Takes a chunk for the session that was sought, which is ready. A chunk that was lost there
-    /// and is to go elsewhere goes back, and the worker leaves the session for it in its next turn.
+    /// The session that was sought, which is ready, has the chunk that was found for it, and the
+    /// claim is over. A chunk that was lost there and is to go elsewhere was passed by, and the
+    /// worker leaves the session for it in its next turn.
     fn keep_or_leave<A: Tally, S: Tally, L: Link, R: Wait>(
         &mut self,
         context: &TurnContext<'_, A, S, R>,
-        seat: &mut S::Seat,
         free: IdleUpstream<L>,
-        picked: PickedChunk,
+        found: Found,
     ) -> WorkerState<L>
-        ensures same { seat.new ≡ seat.old }
-        ensures either { (result ≡ WorkerState.Sought free)
-            ⊎ (result ≡ WorkerState.Took free picked.chunk) }
-        ensures keeps { away_from (has_server picked.lost_at.members
-            free.upstream.session.setup.server) picked.elsewhere ≡ None
-            → result ≡ WorkerState.Took free picked.chunk }
-        ensures leaves { IfSome (away_from (has_server picked.lost_at.members
-            free.upstream.session.setup.server) picked.elsewhere)
-            (λ server. (result ≡ WorkerState.Sought free) × (self.new.doubts.leaves ≡ true)) }
+        ensures kept { IsKeptOrLeft result free found self.new.doubts.leaves }
         ensures quiet { self.new ≡ record self.old { doubts = self.new.doubts } }
     {
-        if picked.away_from(free.upstream.session.server()).is_some() {
-            give_back(context, seat, unused(self.alloc, picked));
-            self.doubts.leaves = true;
-            return WorkerState::Sought(free);
+        match found {
+            Found::Nothing => WorkerState::Sought(free),
+            Found::Passed(_) => {
+                context.out.release(context.rt);
+                self.doubts.leaves = true;
+                WorkerState::Sought(free)
+            }
+            Found::Took(picked) => {
+                context.out.release(context.rt);
+                self.doubts.errand = None;
+                WorkerState::Took(free, self.note(picked))
+            }
         }
-        self.doubts.errand = None;
-        WorkerState::Took(free, self.note(picked))
     }
 
     /// A session ended before it had a chunk. The chunk that it was sought for, if it was lost
@@ -221,10 +164,9 @@ impl Worker {
         }
     }
 
-    /// Takes a chunk for the session that stands, unless the server closed it, or, where the chunk
-    /// was not lost before, for one with the server that the worker is to try in its place. Where
-    /// that must log in first, the chunk goes back until then, and any worker may take it. What
-    /// another worker claims is left to it.
+    /// Takes a chunk for the session that stands, unless the server closed it. Where the worker is
+    /// to try another server for the chunk, that stays free, for any worker, until there is a
+    /// session with the other server that is ready. What another worker claims is left to it.
     pub(super) fn take_next<A: Tally, S: Tally, H: Hub, C: Clock, R: Wait>(
         &mut self,
         context: &TurnContext<'_, A, S, R>,
@@ -248,54 +190,66 @@ impl Worker {
         if free.upstream.ending.is_some() || !free.upstream.session.is_ready() {
             return self.stand(context, seat, free);
         }
-        let Some(Found { view, picked }) = self.look_for(context, seat, ChunkUse::Follow) else {
-            return WorkerState::Standing(free);
-        };
         let own = free.upstream.session.server();
-        let picked = self.fresh_for(context, seat, picked, wants_fresh(view, own));
-        let to = view.way_of(&picked, own);
-        let away = picked.away_from(own);
-        let chunk = self.note(picked);
-        let Some(other) = self.go_over(context, seat, outside, to) else {
-            return self.stay(context, seat, free, chunk, away);
-        };
-        if other.upstream.session.is_ready() {
-            end_free(context, seat, free, None);
-            return WorkerState::Took(other, chunk);
+        let Sight { view, found } = self.look_for(context, seat, ChunkUse::Follow(own));
+        match found {
+            Found::Nothing => WorkerState::Standing(free),
+            Found::Took(picked) => WorkerState::Took(free, self.note(picked)),
+            Found::Passed(offer) => match way_of(view, offer, own) {
+                Some(way) => self.go_over(context, seat, outside, free, way),
+                None => unreachable!(),
+            },
         }
-        self.doubts.errand = away.map(|_| chunk.number());
-        end_free(context, seat, free, Some(chunk));
+    }
+
+    /// Leaves the session that stands for one with another server, where one can be had.
+    fn go_over<A: Tally, S: Tally, H: Hub, C: Clock, R: Wait>(
+        &mut self,
+        context: &TurnContext<'_, A, S, R>,
+        seat: &mut S::Seat,
+        outside: &mut Outside<'_, H, C>,
+        free: IdleUpstream<H::Line>,
+        way: Way,
+    ) -> WorkerState<H::Line>
+        requires { free.upstream.ending ≡ None }
+        ensures same { seat.new ≡ seat.old }
+        ensures gone { HasGoneOver result free (setup_by (arc_value self.old.login)
+            (hex_drawn 0 4 self.old.rng) self.old.acks context.entry.now.now way.server) }
+    {
+        let Some(other) = self.try_server(context, seat, outside, way.server) else {
+            return self.stay(context, seat, free, way);
+        };
+        if way.was_lost_here {
+            self.doubts.errand = Some(way.chunk);
+        }
+        end_free(context, seat, free, None);
         WorkerState::Sought(other)
     }
 
     /// No session could be had in place of the one that stands. A chunk that was lost here counts
-    /// as lost there too, and goes back: it may go to a third server. Any other is taken for the
-    /// session that stands.
+    /// as lost there too: it may go to a third server. Else the session that stands takes what is
+    /// free for it.
     fn stay<A: Tally, S: Tally, L: Link, R: Wait>(
-        &self,
+        &mut self,
         context: &TurnContext<'_, A, S, R>,
         seat: &mut S::Seat,
         free: IdleUpstream<L>,
-        chunk: Carried,
-        away: Option<u16>,
+        way: Way,
     ) -> WorkerState<L>
         ensures same { seat.new ≡ seat.old }
-        ensures stays { (result ≡ WorkerState.Standing free)
-            ⊎ (result ≡ WorkerState.Took free chunk) }
-        ensures takes { away ≡ None → result ≡ WorkerState.Took free chunk }
-        ensures leaves { IfSome away (λ server. result ≡ WorkerState.Standing free) }
+        ensures stays { HasStayed result free }
+        ensures leaves { way.was_lost_here ≡ true → result ≡ WorkerState.Standing free }
     {
-        let Some(server) = away else {
-            return WorkerState::Took(free, chunk);
-        };
-        context.out.miss(context.rt, chunk.number(), server);
-        let leaving = Leaving {
-            taken: Some(chunk),
-            loaded: Vec::new(self.alloc),
-            server: None,
-        };
-        give_back(context, seat, leaving);
-        WorkerState::Standing(free)
+        if way.was_lost_here {
+            context.out.miss(context.rt, way.chunk, way.server);
+            return WorkerState::Standing(free);
+        }
+        let own = ChunkUse::Keep(free.upstream.session.server());
+        let Sight { view: _, found } = self.look_for(context, seat, own);
+        match found {
+            Found::Took(picked) => WorkerState::Took(free, self.note(picked)),
+            Found::Nothing | Found::Passed(_) => WorkerState::Standing(free),
+        }
     }
 
     /// Loads the chunk that was taken, once the session is ready; until then the session is served.

@@ -1,4 +1,4 @@
-use Rattle.std.proofs.Common.{◌≡◌, inl, IfSome, sym, ap, subst, ◌∙◌}
+use Rattle.std.proofs.Common.{◌≡◌, IfSome, sym, ap, subst, ◌∙◌}
 use Rattle.std.specs.Prelude.{is_some, option_map}
 use Rattle.std.specs.Arc.{arc_value}
 use Rattle.fwd_handshake.specs.Draws.{hex_drawn}
@@ -7,7 +7,7 @@ use Rattle.fwd_workers.specs.declared.ending.EndReason.{EndReason}
 use Rattle.fwd_workers.specs.declared.upstream.WorkerState.TheVariants as state
 use Rattle.fwd_workers.specs.Endings.{idle_ending, news_of}
 use Rattle.fwd_workers.specs.Working.{HasTakenNext, IsTended, setup_by}
-use Rattle.fwd_workers.proofs.Taking.{by-ending, either, goes-on}
+use Rattle.fwd_workers.proofs.Taking.{by-ending, goes-on, gone-over}
 use Rattle.fwd_workers.proofs.worker.Worker.take_next.Goals as goal
 
 pub returns-then-is_some-clause-taken : goal.returns-then-is_some-clause-taken
@@ -49,8 +49,8 @@ returns-then-is_some-clause-taken g c none =
       ends.1 ∙ ap (λ t. news_of (idle why) t.setup.server 0) c.allow_close-free.ensures.session,
     ))
 
-pub returns-in_default-clause-taken : goal.returns-in_default-clause-taken
-returns-in_default-clause-taken g c none =
+pub returns-in-Nothing-clause-taken : goal.returns-in-Nothing-clause-taken
+returns-in-Nothing-clause-taken g c none =
     goes-on c.args.free.upstream.session c.serve_free.result.upstream.session
     c.allow_close-free.result.upstream.session c.args.context.now.now
     (g.H.Line.Link.calls c.args.free.upstream.link)
@@ -60,19 +60,32 @@ returns-in_default-clause-taken g c none =
     (c.serve_free.ensures.turn none) c.allow_close-free.ensures.session c.allow_close-free.ensures.ending
     (sym c.is_some.ensures ∙ c.if-is_some.false)
 
-pub returns-in_default-go_over-clause-taken : goal.returns-in_default-go_over-clause-taken
-returns-in_default-go_over-clause-taken g c none =
+pub returns-in-Took-clause-taken : goal.returns-in-Took-clause-taken
+returns-in-Took-clause-taken g c none =
     let on = goes-on c.args.free.upstream.session c.serve_free.result.upstream.session
     c.allow_close-free.result.upstream.session c.args.context.now.now
     (g.H.Line.Link.calls c.args.free.upstream.link)
     (g.H.Line.Link.calls c.serve_free.result.upstream.link)
     c.serve_free.result.upstream.ending c.allow_close-free.result.upstream.ending
     (λ why. idle_ending why (is_done c.serve_free.result.upstream.session.handshake))
-    (c.serve_free.ensures.turn none) c.allow_close-free.ensures.session
-    c.allow_close-free.ensures.ending (sym c.is_some.ensures ∙ c.if-is_some.false) in
-    either (λ at. HasTakenNext at c.go_over.new.self.event c.args.free.upstream.session
-    c.args.context.now.now (g.H.Line.Link.calls c.args.free.upstream.link)
+    (c.serve_free.ensures.turn none) c.allow_close-free.ensures.session c.allow_close-free.ensures.ending
+    (sym c.is_some.ensures ∙ c.if-is_some.false) in
+    (on.0, sym c.is_ready.ensures ∙ c.if-not-is_ready.false, on.1)
+
+pub returns-in-Some-clause-taken : goal.returns-in-Some-clause-taken
+returns-in-Some-clause-taken g c none =
+    gone-over c.go_over.result c.allow_close-free.result
     (setup_by (arc_value c.args.self.now.login) (hex_drawn 0 4 c.args.self.now.rng)
-    c.args.self.now.acks c.args.context.now.now))
-    c.stay.result _ _ c.stay.ensures.stays on
-    (on.0, sym c.is_ready.ensures ∙ c.if-not-is_ready.false, inl on.1)
+    c.args.self.now.acks c.args.context.now.now)
+    c.in-Some.way.server c.go_over.new.self.event c.args.free.upstream.session
+    c.args.context.now.now (g.H.Line.Link.calls c.args.free.upstream.link)
+    c.go_over.ensures.gone
+    (goes-on c.args.free.upstream.session c.serve_free.result.upstream.session
+    c.allow_close-free.result.upstream.session c.args.context.now.now
+    (g.H.Line.Link.calls c.args.free.upstream.link)
+    (g.H.Line.Link.calls c.serve_free.result.upstream.link)
+    c.serve_free.result.upstream.ending c.allow_close-free.result.upstream.ending
+    (λ why. idle_ending why (is_done c.serve_free.result.upstream.session.handshake))
+    (c.serve_free.ensures.turn none) c.allow_close-free.ensures.session c.allow_close-free.ensures.ending
+    (sym c.is_some.ensures ∙ c.if-is_some.false))
+    (sym c.is_ready.ensures ∙ c.if-not-is_ready.false)
