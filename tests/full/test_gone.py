@@ -1,4 +1,6 @@
-"""Sources that wait at a full output, give up and are gone cost those who stay nothing."""
+"""Sources that wait at a full output cost nothing, and those that give up and are gone cost those who stay nothing."""
+
+import time
 
 import pytest
 
@@ -54,3 +56,18 @@ def test_who_is_gone_is_not_looked_at(relay, next_hop):
         leave(one, [begin_to_wait(one) for _ in range(CROWD)], 2)
     assert min(cost(one, healthy) for _ in range(2)) < 2 * least + 0.1
     stays.close()
+
+
+@pytest.mark.quick
+def test_who_waits_costs_nothing(relay, next_hop):
+    """Where nothing is settled a source that waits is not asked again and again: the relay sleeps."""
+    one = relay([{"servers": [next_hop(answer=hold).port], "full": "wait", "total_limit": 1_000}], metrics=True)
+    with one.source() as first:
+        first.send("a", [(1, {"n": "x" * 800})])
+        one.await_page(lambda it: it.accepted == 1)
+    waits = begin_to_wait(one)
+    one.until(lambda: one.metric('forward_relay_waiting_sources{output="0"}') == 1, "it does not wait")
+    before = one.processor()
+    time.sleep(2)
+    assert one.processor() - before < 0.5
+    waits.close()

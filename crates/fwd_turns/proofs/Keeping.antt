@@ -1,6 +1,6 @@
 -- Which sources stand behind a visit.
-use Rattle.std.proofs.Common.{arith, ◌≡◌, ◌≢◌, ◌⊎◌, inl, inr, ℕ, Bool, true, false, List, [], ◌∷◌, length, Option, Some, None, refl, sym, ap, subst, ◌∙◌}
-use Rattle.std.specs.Prelude.{◌==◌, ◌&&◌, ◌||◌, not, nat_lt, if◌then◌else◌}
+use Rattle.std.proofs.Common.{arith, ◌≡◌, ◌≢◌, ◌<◌, ◌⊎◌, inl, inr, ℕ, Bool, true, false, [], ◌∷◌, length, Option, Some, None, refl, sym, ap, subst, ◌∙◌}
+use Rattle.std.specs.Prelude.{◌==◌, ◌&&◌, ◌||◌, not, nat_le, nat_lt, option_map, if◌then◌else◌}
 use Rattle.std.specs.Option.{is_some, option_and_then}
 use Rattle.std.proofs.lemmas.Bool.Decides.{nat_tests}
 use Rattle.std.proofs.lemmas.Bool.{eqb-true, eqb-false}
@@ -15,10 +15,13 @@ use Rattle.fwd_reader.specs.declared.connections.OpenConnection.{OpenConnection}
 use Rattle.fwd_reader.specs.declared.connections.Connections.{Connections}
 use Rattle.fwd_reader.specs.Lending.{with_connection}
 use Rattle.fwd_reader.specs.OpenConnections.{connection_at, connection_in, connections_in, without}
+use Rattle.fwd_reader.specs.Queues.{is_queued_at, is_ready_at, kept_at, made_kept, made_queued, made_ready, put_at, waits_no_more, with_changed}
 use Rattle.fwd_turns.specs.declared.visiting.After.{After}
 use Rattle.fwd_turns.specs.declared.visiting.After.TheVariants.{Again, Waits, Kept, Rests, Goes}
 use Rattle.fwd_turns.specs.Visits.{after_of, is_left, visited_of}
-use Rattle.fwd_turns.specs.Keeping.{IsVisited, IsWith, KeepsAt, KeepsWaiting, Standing, StandsWith, waits_unasked}
+use Rattle.fwd_reader.specs.Admissions.{AdmitsAndRefuses, AdmitsAndWaits}
+use Rattle.fwd_reader.specs.Routers.{RouterShown}
+use Rattle.fwd_turns.specs.Keeping.{IsDone, IsReadAt, IsReadTo, IsServedAt, IsVisited, IsWith, KeepsAt, KeepsServed, KeepsWaiting, ReadsAndServes, Serves, Standing, StandsWith, waits_unasked}
 
 -- a connection goes or not
 goes_or_not : (after : After) → (after ≡ Goes) ⊎ (after ≢ Goes)
@@ -134,11 +137,11 @@ others_stand u t key k after stays goes apart (inl e) =
 others_stand u t key k after stays goes apart (inr n) = ap (λ f. f k) (stays n)
 
 -- a connection is visited, and goes by what becomes of it
-kept_at : (s u t : Standing) (key : ℕ) (after : After) → IsVisited key s u
+kept_there : (s u t : Standing) (key : ℕ) (after : After) → IsVisited key s u
     → KeepsAt key s after → (after ≢ Goes → t ≡ u) → (after ≡ Goes → t ≡ without key u)
     → (k : ℕ) (source : PeerShown) → s k ≡ Some (kind.Source source)
     → waits_unasked source ≡ true → StandsWith source (t k)
-kept_at s u t key after visited stand stays goes k source there waits = by (k == key) refl
+kept_there s u t key after visited stand stays goes k source there waits = by (k == key) refl
   where
     at : k ≡ key → s key ≡ Some (kind.Source source)
     at same = subst (λ j. s j ≡ Some (kind.Source source)) same there
@@ -163,7 +166,7 @@ pub keeps : (before s u t : Standing) (key : ℕ) (after : After) → s ≡ befo
     → (after ≡ Goes → t ≡ without key u) → KeepsWaiting before t
 keeps before s u t key after same visited stand stays goes =
     subst (λ b. KeepsWaiting b t) same
-    (record { kept = kept_at s u t key after visited stand stays goes })
+    (record { kept = kept_there s u t key after visited stand stays goes })
 
 -- a connection goes that was changed before
 pub gone_then : (s u t : Standing) (key : ℕ)
@@ -207,3 +210,260 @@ visited_at c key (Some opened) was after there same stands =
     let is : was ≡ opened.connection =
     some_same was opened.connection (same ∙ ap connection_in there) in
     visits c.opened key opened after there (λ source it. stands source (is ∙ it))
+
+-- ---- a visit that reads
+
+-- who has nothing that waits has nothing that nobody sends again
+none_unasked : (s t : PeerShown) → t.live.waiting ≡ s.live.waiting → s.live.waiting ≡ []
+    → waits_unasked t ≡ true → ⊥
+none_unasked s t same none unasked =
+    let parts = both (not (length t.live.waiting == 0)) (not (asks t)) unasked in
+    no_true (sym (ap (λ ws. not (length ws == 0)) (same ∙ none)) ∙ parts.0)
+  where
+    no_true : false ≡ true → ⊥
+    no_true e = cc
+
+-- nor has who asks for an acknowledgement
+asks_unasked : (s t : PeerShown) → t.live.waiting ≡ s.live.waiting → asks s ≡ true
+    → waits_unasked t ≡ true → ⊥
+asks_unasked s t same asking unasked =
+    let parts = both (not (length t.live.waiting == 0)) (not (asks t)) unasked in
+    no_true (sym (is_not (asks t) parts.1) ∙ asks_same s t same ∙ asking)
+  where
+    no_true : false ≡ true → ⊥
+    no_true e = cc
+
+-- where none has to wait longer, no source goes of which a request waits that nobody sends again,
+-- but for a refusal
+done_stays : (o p : RouterShown) (s served t : PeerShown) (after : After)
+    → IsDone o s p served → t.live.waiting ≡ served.live.waiting
+    → waits_unasked t ≡ true → after ≡ Goes → AdmitsAndRefuses o s p served
+done_stays o p s served t after (inl each) same unasked goes =
+    absurd (none_unasked served t same each.none unasked)
+done_stays o p s served t after (inr (inl refused)) same unasked goes = refused
+done_stays o p s served t after (inr (inr dropped)) same unasked goes =
+    absurd (asks_unasked s t (same ∙ ap (λ (x : PeerShown). x.live.waiting) dropped.2)
+    dropped.0 unasked)
+
+-- where some have to wait, it does not go at all
+waits_stays : (t : PeerShown) (again closing : Bool) (after : After)
+    → after ≡ after_of (visited_of again true closing t) → waits_unasked t ≡ true
+    → after ≡ Goes → ⊥
+waits_stays t again closing after becomes unasked goes =
+    let parts = both (not (length t.live.waiting == 0)) (not (asks t)) unasked in
+    never_goes true (is_left (visited_of again true closing t)) (asks t) Rests refl
+    (is_not (asks t) parts.1) (sym becomes ∙ goes)
+
+-- a source is served, and written to
+serves : (o p : RouterShown) (s served t : PeerShown) (waits again closing : Bool)
+    (after : After)
+    → (waits ≡ true → AdmitsAndWaits o s p served) → (waits ≡ false → IsDone o s p served)
+    → t.live.waiting ≡ served.live.waiting
+    → after ≡ after_of (visited_of again waits closing t) → Serves o s after p t
+serves o p s served t true again closing after waited done same becomes = record {
+  served = served;
+  admits = inl (waited refl);
+  waiting = same;
+  stays = λ unasked goes. absurd (waits_stays t again closing after becomes unasked goes);
+}
+serves o p s served t false again closing after waited done same becomes = record {
+  served = served;
+  admits = inr (done refl);
+  waiting = same;
+  stays = done_stays o p s served t after (done refl) same;
+}
+
+-- a source is read, served, and written to
+pub reads_and_serves : (o p : RouterShown) (s read served told t : PeerShown)
+    (waits again closing goes_on : Bool) (after : After)
+    → (0 < length s.live.waiting → read.live.waiting ≡ s.live.waiting)
+    → read.live.admitted ≡ s.live.admitted → (waits ≡ true → AdmitsAndWaits o read p served)
+    → (waits ≡ false → IsDone o read p served) → told ≡ record served { why = None }
+    → Writes told goes_on t → after ≡ after_of (visited_of again waits closing t)
+    → ReadsAndServes o s after p t
+reads_and_serves o p s read served told t waits again closing goes_on after had none waited done once writes becomes =
+    record {
+      read = read;
+      had = had;
+      none = none;
+      serves = serves o p read served t waits again closing after waited done
+          (writes_keep told t goes_on writes ∙ ap (λ (x : PeerShown). x.live.waiting) once)
+          becomes;
+    }
+
+-- a source is left unread
+pub stays_so : (o : RouterShown) (s t : PeerShown) → t ≡ s → IsReadTo o s Again o (kind.Source t)
+stays_so o s t same =
+    inl ((t, (refl, ap (λ (x : PeerShown). x.live.waiting) same)), (λ e. cc), refl)
+
+-- a source was read and served
+pub was_served : (o p : RouterShown) (s t : PeerShown) (after : After)
+    → ReadsAndServes o s after p t → IsReadTo o s after p (kind.Source t)
+was_served o p s t after reads = inr (t, (refl, reads))
+
+-- and so was the connection that it is
+pub was_read_to : (o p : RouterShown) (connection last : Peer) (was source : PeerShown)
+    (after : After) → connection ≡ kind.Source was → IsReadTo o was after p last
+    → connection ≡ kind.Source source → IsReadTo o source after p last
+was_read_to o p connection last was source after is reads it =
+    subst (λ s. IsReadTo o s after p last) (source_same was source (sym is ∙ it)) reads
+
+-- where nothing changes each stands
+pub all_served : (o : RouterShown) (s t : Standing) → t ≡ s → KeepsServed o s o t
+all_served o s t same = record {
+  each = λ key source there. inl (source, (ap (λ f. f key) same ∙ there, refl));
+}
+
+-- the connection that is lent was read
+pub read_there : (c : Connections) (key : ℕ) (o : Option OpenConnection) (was after : Peer)
+    (before then_ : RouterShown) (becomes : After)
+    → slots.get c.opened key ≡ o → Some was ≡ connection_at c key
+    → ((source : PeerShown) → was ≡ kind.Source source
+    → IsReadTo before source becomes then_ after)
+    → IsReadAt key before (connection_at c) becomes then_
+    (connection_at (with_connection c key o after))
+read_there c key None was after before then_ becomes there same reads =
+    absurd (none_is was (same ∙ ap connection_in there))
+read_there c key (Some opened) was after before then_ becomes there same reads =
+    let is = record opened { connection = after } in
+    let changes = updated c.opened key opened is there in
+    record {
+      others = λ other apart. ap connection_in (changes.others other apart);
+      there = λ source it.
+          let is_source : was ≡ kind.Source source =
+          some_same was (kind.Source source) (same ∙ it) in
+          (after, (ap connection_in changes.changed, reads source is_source));
+    }
+
+-- none is lent
+pub read_none : (o : RouterShown) (s : Standing) (key : ℕ) → s key ≡ None
+    → IsReadAt key o s Rests o s
+read_none o s key none = record {
+  others = λ other apart. refl;
+  there = λ source it. absurd (none_is (kind.Source source) (sym it ∙ none));
+}
+
+-- what becomes of the one that was read
+served_at : (o p : RouterShown) (s u t : Standing) (key : ℕ) (after : After)
+    → IsReadAt key o s after p u → (after ≢ Goes → t ≡ u) → (after ≡ Goes → t ≡ without key u)
+    → (source : PeerShown) → s key ≡ Some (kind.Source source)
+    → StandsWith source (t key) ⊎ IsServedAt o source p (t key)
+served_at o p s u t key after read stays goes source there =
+    by (read.there source there).0 (read.there source there).1.0 (read.there source there).1.1
+  where
+    last : (v : PeerShown) → u key ≡ Some (kind.Source v) → (after ≡ Goes) ⊎ (after ≢ Goes)
+        → (t key ≡ Some (kind.Source v)) ⊎ ((after ≡ Goes) × (t key ≡ None))
+    last v is (inl e) =
+        let same : (key == key) ≡ true = grind (arith, nat_tests) in
+        inr (e, ap (λ f. f key) (goes e) ∙ ap (λ b. if b then None else u key) same)
+    last v is (inr n) = inl (ap (λ f. f key) (stays n) ∙ is)
+
+    by : (connection : Peer) → u key ≡ Some connection → IsReadTo o source after p connection
+        → StandsWith source (t key) ⊎ IsServedAt o source p (t key)
+    by connection at_key (inl stood) =
+        inl (stood.0.0, (ap (λ f. f key) (stays stood.1) ∙ at_key ∙ ap Some stood.0.1.0, stood.0.1.1))
+    by connection at_key (inr was) =
+        inr (after, (was.0, (was.1.1, last was.0 (at_key ∙ ap Some was.1.0) (goes_or_not after))))
+
+-- a connection is read, and goes by what becomes of it
+pub keeps_served : (o p q : RouterShown) (before s u t : Standing) (key : ℕ) (after : After)
+    → s ≡ before → IsReadAt key o s after p u → (after ≢ Goes → t ≡ u)
+    → (after ≡ Goes → t ≡ without key u) → q ≡ p → KeepsServed o before q t
+keeps_served o p q before s u t key after same read stays goes left =
+    subst (λ r. KeepsServed o before r t) (sym left)
+    (subst (λ b. KeepsServed o b p t) same (record {
+      each = λ k source there. by k source there (k == key) refl;
+    }))
+  where
+    by : (k : ℕ) (source : PeerShown) → s k ≡ Some (kind.Source source) → (b : Bool)
+        → (k == key) ≡ b → StandsWith source (t k) ⊎ IsServedAt o source p (t k)
+    by k source there true e =
+        let is : k ≡ key = eqb-true k key e in
+        subst (λ j. StandsWith source (t j) ⊎ IsServedAt o source p (t j)) (sym is)
+        (served_at o p s u t key after read stays goes source
+        (subst (λ j. s j ≡ Some (kind.Source source)) is there))
+    by k source there false e =
+        inl (
+          source,
+          (
+            others_stand u t key k after stays goes e (goes_or_not after)
+                ∙ read.others k (eqb-false k key e) ∙ there,
+            refl,
+          ),
+        )
+
+-- ---- what is noted of a connection behind a visit
+
+-- what stands at a key once it was changed there
+changed_there : (opened : slots.Slab OpenConnection) (key : ℕ) (o : Option OpenConnection)
+    (change : OpenConnection → OpenConnection) → slots.get opened key ≡ o
+    → slots.get (put_at opened key (option_map change o)) key ≡ option_map change o
+changed_there opened key None change there = there
+changed_there opened key (Some was) change there =
+    (updated opened key was (change was) there).changed
+
+-- the same of these connections
+changed_at : (before opened : slots.Slab OpenConnection) (key : ℕ)
+    (change : OpenConnection → OpenConnection) → opened ≡ with_changed before key change
+    → slots.get opened key ≡ option_map change (slots.get before key)
+changed_at before opened key change is =
+    ap (λ o. slots.get o key) is ∙ changed_there before key (slots.get before key) change refl
+
+-- whether what stands at a key, if something does, stands among those that are ready
+abbrev are_ready : Option OpenConnection → Option Bool
+are_ready o = option_map (λ (it : OpenConnection). it.is_ready) o
+
+-- the same of those whose requests wait
+abbrev are_queued : Option OpenConnection → Option Bool
+are_queued o = option_map (λ (it : OpenConnection). it.is_queued) o
+
+ready_not : (o : Option OpenConnection)
+    → are_ready (option_map waits_no_more (option_map (made_ready false) o)) ≡ Some false → ⊥
+ready_not None e = absurd cc
+ready_not (Some o) e = absurd cc
+
+queued_not : (now : ℕ) (o : Option OpenConnection)
+    → are_queued (option_map (made_queued now) o) ≡ Some false → ⊥
+queued_not now None e = absurd cc
+queued_not now (Some o) e = absurd cc
+
+still_queued : (o : Option OpenConnection)
+    → are_queued (option_map made_kept o) ≡ are_queued o
+still_queued None = refl
+still_queued (Some o) = refl
+
+kept_queued : (opened : slots.Slab OpenConnection) (key : ℕ) (b : Bool)
+    → are_queued (slots.get (if b then opened else with_changed opened key made_kept) key)
+    ≡ are_queued (slots.get opened key)
+kept_queued opened key true = refl
+kept_queued opened key false =
+    ap are_queued (changed_there opened key (slots.get opened key) made_kept refl)
+    ∙ still_queued (slots.get opened key)
+
+-- one that was made ready, and of which no request waits then, is ready
+pub noted_again : (s between t : Connections) (key : ℕ)
+    → between.opened ≡ with_changed s.opened key (made_ready false)
+    → t.opened ≡ with_changed between.opened key waits_no_more → is_ready_at t key ≢ Some false
+noted_again s between t key ready admitted not_ready =
+    ready_not (slots.get s.opened key)
+    (sym (ap are_ready (changed_at between.opened t.opened key waits_no_more admitted
+    ∙ ap (option_map waits_no_more)
+    (changed_at s.opened between.opened key (made_ready false) ready))) ∙ not_ready)
+
+-- one of which requests wait stands among those
+pub noted_waits : (s t : Connections) (key now : ℕ)
+    → t.opened ≡ with_changed s.opened key (made_queued now) → is_queued_at t key ≢ Some false
+noted_waits s t key now waits not_queued =
+    queued_not now (slots.get s.opened key)
+    (sym (ap are_queued (changed_at s.opened t.opened key (made_queued now) waits)) ∙ not_queued)
+
+-- so does one whose other side is gone
+pub noted_kept : (s t : Connections) (kept limit key now : ℕ)
+    → t.opened ≡ kept_at kept limit key (with_changed s.opened key (made_queued now))
+    → is_queued_at t key ≢ Some false
+noted_kept s t kept limit key now is not_queued =
+    queued_not now (slots.get s.opened key)
+    (sym (ap (λ o. are_queued (slots.get o key)) is
+    ∙ kept_queued (with_changed s.opened key (made_queued now)) key (nat_le limit kept)
+    ∙ ap are_queued (changed_there s.opened key (slots.get s.opened key) (made_queued now) refl))
+    ∙ not_queued)

@@ -1,10 +1,14 @@
 -- Which sources are kept: those of which a request waits that nobody sends again.
-use Rattle.std.specs.Prelude.{◌≡◌, ◌≢◌, ◌==◌, ◌&&◌, ℕ, Bool, true, not, length, Option, Some}
+use Rattle.std.specs.Prelude.{◌≡◌, ◌≢◌, ◌<◌, ◌⊎◌, ◌==◌, ◌&&◌, ℕ, Bool, true, false, not, length, Option, Some, None, ⊤}
 use Rattle.fwd_peers.specs.Peers.{PeerShown, asks}
+use Rattle.fwd_reader.specs.Admissions.{AdmitsAndRefuses, AdmitsAndWaits, AdmitsEach}
+use Rattle.fwd_reader.specs.Queues.{is_queued_at, is_ready_at}
+use Rattle.fwd_reader.specs.Routers.{RouterShown}
+use Rattle.fwd_reader.specs.declared.connections.Connections.{Connections}
 use Rattle.fwd_reader.specs.declared.peer.Peer.{Peer}
 use Rattle.fwd_reader.specs.declared.peer.Peer.TheVariants as kind
 use Rattle.fwd_turns.specs.declared.visiting.After.{After}
-use Rattle.fwd_turns.specs.declared.visiting.After.TheVariants.{Goes}
+use Rattle.fwd_turns.specs.declared.visiting.After.TheVariants.{Again, Waits, Kept, Rests, Goes}
 
 -- the connections that stand, by their keys
 abbrev pub Standing : Type 0
@@ -42,3 +46,71 @@ abbrev pub KeepsAt : (key : ℕ) → Standing → After → Type 0
 KeepsAt key s after =
     (source : PeerShown) → s key ≡ Some (kind.Source source) → waits_unasked source ≡ true
     → after ≢ Goes
+
+-- Once it is noted what becomes of the connection at a key, if one stands there: one that is
+-- visited again stands among those that are ready, and one of which requests wait among those that
+-- wait. The system tells of any other that stands.
+abbrev pub IsNoted : After → Connections → (key : ℕ) → Type 0
+IsNoted Again c key = is_ready_at c key ≢ Some false
+IsNoted Waits c key = is_queued_at c key ≢ Some false
+IsNoted Kept c key = is_queued_at c key ≢ Some false
+IsNoted Rests c key = ⊤
+IsNoted Goes c key = ⊤
+
+-- ---- a visit that reads
+
+-- How the requests that wait at a source are served, where none has to wait longer: they are
+-- admitted, each of them, or up to the first that is refused. Or the source was told that no more
+-- comes, and sends the first of them again: none is admitted.
+abbrev pub IsDone : RouterShown → PeerShown → RouterShown → PeerShown → Type 0
+IsDone o s p t =
+    AdmitsEach o s p t
+    ⊎ (AdmitsAndRefuses o s p t ⊎ ((asks s ≡ true) × (p ≡ o) × (t ≡ s)))
+
+-- the same, or some of them have to wait longer
+abbrev pub IsServed : RouterShown → PeerShown → RouterShown → PeerShown → Type 0
+IsServed o s p t = AdmitsAndWaits o s p t ⊎ IsDone o s p t
+
+-- A source is served, and what waits behind that waits still. Where a request of it waits that
+-- nobody sends again, the source does not go, unless the relay refused one of its requests.
+pub record Serves (o : RouterShown) (s : PeerShown) (after : After) (p : RouterShown)
+    (t : PeerShown) : Type 0 where
+  pub served : PeerShown
+  pub admits : IsServed o s p served
+  pub waiting : t.live.waiting ≡ served.live.waiting
+  pub stays : waits_unasked t ≡ true → after ≡ Goes → AdmitsAndRefuses o s p served
+
+-- A source is read, which gives none of its requests, and served behind that. Where requests waited
+-- before, those wait then.
+pub record ReadsAndServes (o : RouterShown) (s : PeerShown) (after : After) (p : RouterShown)
+    (t : PeerShown) : Type 0 where
+  pub read : PeerShown
+  pub had : 0 < length s.live.waiting → read.live.waiting ≡ s.live.waiting
+  pub none : read.live.admitted ≡ s.live.admitted
+  pub serves : Serves o read after p t
+
+-- What a visit that reads makes of a source: it stays, with all that waited, and nothing else
+-- changes; or it is read and served.
+abbrev pub IsReadTo : RouterShown → PeerShown → After → RouterShown → Peer → Type 0
+IsReadTo o s after p connection =
+    (IsWith s connection × (after ≢ Goes) × (p ≡ o))
+    ⊎ ((t : PeerShown) × ((connection ≡ kind.Source t) × ReadsAndServes o s after p t))
+
+-- the connection at a key was visited so, and no other
+pub record IsReadAt (key : ℕ) (o : RouterShown) (s : Standing) (after : After) (p : RouterShown)
+    (t : Standing) : Type 0 where
+  pub others : (other : ℕ) → other ≢ key → t other ≡ s other
+  pub there : (source : PeerShown) → s key ≡ Some (kind.Source source)
+      → (connection : Peer) × ((t key ≡ Some connection) × IsReadTo o source after p connection)
+
+-- what becomes of a source that was read and served: it stands, or went
+abbrev pub IsServedAt : RouterShown → PeerShown → RouterShown → Option Peer → Type 0
+IsServedAt o source p last =
+    (after : After) × ((t : PeerShown) × (ReadsAndServes o source after p t
+    × ((last ≡ Some (kind.Source t)) ⊎ ((after ≡ Goes) × (last ≡ None)))))
+
+-- Each source stands afterwards with all that waited, or it was read and served.
+pub record KeepsServed (o : RouterShown) (s : Standing) (p : RouterShown) (t : Standing)
+    : Type 0 where
+  pub each : (key : ℕ) (source : PeerShown) → s key ≡ Some (kind.Source source)
+      → StandsWith source (t key) ⊎ IsServedAt o source p (t key)

@@ -1,6 +1,8 @@
 //! Where connections come in.
 
-ghost use Rattle.std.specs.Prelude.{◌≡◌, ◌<◌, None, Some, IfOk, IfSome};
+ghost use Rattle.std.specs.Prelude.{◌≡◌, ◌<◌, None, Some, IfOk, IfSome, OnOk};
+ghost use Rattle.std.specs.Arc.{arc_value};
+ghost use Rattle.fwd_handshake.specs.Draws.{drawn, moved};
 ghost use Rattle.fwd_turns.specs.Ids.{IsNoLess};
 
 use crate::places::{PlaceRule, free_place, is_crowded};
@@ -124,9 +126,18 @@ impl<'a, 'p, 'r, J: Run> Incoming<'a, 'p, 'r, J> {
 }
 
 impl SourceSetup {
-    /// The source of this id, before its first byte. The only error is out of memory.
+    /// The source of this id, before its first byte. Its random bytes are drawn for it alone. The
+    /// only error is out of memory.
     fn source(&mut self, alloc: Global, id: u64) -> Result<Source, AllocError>
-        ensures { IfOk result (λ source. source.live.setup.conn ≡ id) }
+        ensures own { IfOk result (λ source. source.live.setup.conn ≡ id) }
+        ensures security { IfOk result (λ source.
+            source.live.setup.security ≡ arc_value self.old.security) }
+        ensures limits { IfOk result (λ source. source.live.setup.limits ≡ self.old.limits) }
+        ensures nonce { IfOk result (λ source.
+            source.live.setup.nonces.nonce ≡ drawn 0 4 self.old.nonces) }
+        ensures auth { IfOk result (λ source.
+            source.live.setup.nonces.auth ≡ drawn 4 4 self.old.nonces) }
+        ensures moved { OnOk result (self.new.nonces ≡ moved 8 self.old.nonces) }
     {
         let security = Arc::try_clone(&self.security)?;
         let nonces = Nonces::draw(&mut self.nonces);
@@ -263,6 +274,7 @@ impl Acceptor {
         ensures given { result ≡ self.old.next_id }
         ensures rises { IfSome result (λ id. IfSome self.new.next_id (λ next. id < next)) }
         ensures last { result ≡ None → self.new.next_id ≡ None }
+        ensures setup { self.new.setup ≡ self.old.setup }
         ensures later { IsNoLess self.old.next_id self.new.next_id }
     {
         let id = self.next_id?;
@@ -281,6 +293,10 @@ impl Acceptor {
             self.old.next_id ≡ Some source.id)) }
         ensures once { IfOk result (λ made. IfSome made (λ source.
             IfSome self.new.next_id (λ next. source.id < next))) }
+        ensures nonce { IfOk result (λ made. IfSome made (λ source.
+            source.live.setup.nonces.nonce ≡ drawn 0 4 self.old.setup.nonces)) }
+        ensures moved { IfOk result (λ made. IfSome made (λ _.
+            self.new.setup.nonces ≡ moved 8 self.old.setup.nonces)) }
         ensures later { IsNoLess self.old.next_id self.new.next_id }
     {
         let Some(id) = self.give_id() else {

@@ -33,7 +33,8 @@
 //! Nothing is acknowledged sooner than else. A relay that is killed while it drains loses no more
 //! than one that is killed at another time.
 
-ghost use Rattle.std.specs.Prelude.{◌≡◌, ◌<◌, ◌≤◌, ◌+◌, ◌⊎◌, true, false, IfSome};
+ghost use Rattle.std.specs.Prelude.{◌≡◌, ◌<◌, ◌≤◌, ◌+◌, ◌⊎◌, true, false, length, IfSome};
+ghost use Rattle.fwd_peers.specs.Peers.{asks};
 ghost use Rattle.fwd_turns.specs.Draining.{IfMore, IsDrained, left_of};
 
 use crate::reader::Reader;
@@ -120,14 +121,19 @@ fn after_read(stage: LeaveStage, count: usize, may_have_more: bool) -> LeaveStag
 }
 
 /// Reads a source at a moment (milliseconds), as far as it has come, and says whether there may be
-/// more that is to be read. One of which that is dropped is over.
+/// more that is to be read. One of which that is dropped is over. None of its requests is given,
+/// and where some wait nothing is read.
 pub(crate) fn read_leaving(
     source: &mut SourcePeer,
     alloc: Global,
     room: &mut [u8],
     to_end: bool,
     now: u64,
-) -> bool {
+) -> bool
+    ensures waiting { 0 < length source.old.live.waiting
+        → source.new.live.waiting ≡ source.old.live.waiting }
+    ensures none { source.new.live.admitted ≡ source.old.live.admitted }
+{
     let stage = source.leave_stage();
     if let LeaveStage::Stays = stage {
         return read_source(source, alloc, room, to_end, now);
@@ -138,22 +144,7 @@ pub(crate) fn read_leaving(
     if source.waiting() > 0 {
         return true;
     }
-    let again = match stage {
-        LeaveStage::Leaves { since, left, taken } => match look_ahead(source, room, taken) {
-            Ahead::More(count) => {
-                source.hear_ahead(alloc, room.get(taken..count).unwrap_or(&[]), now);
-                source.leave_by(with_taken(stage, count));
-                true
-            }
-            Ahead::Nothing if !is_late(since, now) => read_on(source, alloc, room, to_end, now),
-            Ahead::Many if left > 0 => read_on(source, alloc, room, to_end, now),
-            _ => {
-                source.end();
-                false
-            }
-        },
-        _ => read_on(source, alloc, room, to_end, now),
-    };
+    let again = read_last(source, alloc, room, to_end, now);
     if is_dropped(source) {
         source.end();
         return false;
@@ -161,15 +152,41 @@ pub(crate) fn read_leaving(
     again
 }
 
-/// Reads a source at a moment (milliseconds), notes how far it has come, and says whether there may
-/// be more that is to be read.
-fn read_on(
+/// The same of a source of which no request waits. Where it was told that no more comes, it is
+/// looked first what its stream has.
+fn read_last(
     source: &mut SourcePeer,
     alloc: Global,
     room: &mut [u8],
     to_end: bool,
     now: u64,
-) -> bool {
+) -> bool
+    ensures { source.new.live.admitted ≡ source.old.live.admitted }
+{
+    let stage = source.leave_stage();
+    let LeaveStage::Leaves { since, left, taken } = stage else {
+        return read_on(source, alloc, room, to_end, now);
+    };
+    match look_ahead(source, room, taken) {
+        Ahead::More(count) => {
+            source.hear_ahead(alloc, room.get(taken..count).unwrap_or(&[]), now);
+            source.leave_by(with_taken(stage, count));
+            true
+        }
+        Ahead::Nothing if !is_late(since, now) => read_on(source, alloc, room, to_end, now),
+        Ahead::Many if left > 0 => read_on(source, alloc, room, to_end, now),
+        _ => {
+            source.end();
+            false
+        }
+    }
+}
+
+/// Reads a source at a moment (milliseconds), notes how far it has come, and says whether there may
+/// be more that is to be read.
+fn read_on(source: &mut SourcePeer, alloc: Global, room: &mut [u8], to_end: bool, now: u64) -> bool
+    ensures { source.new.live.admitted ≡ source.old.live.admitted }
+{
     let count = source.portion(room.len());
     let again = read_source(source, alloc, room, to_end, now);
     let stage = after_read(source.leave_stage(), count, again);
@@ -233,7 +250,9 @@ fn look_ahead(source: &SourcePeer, room: &mut [u8], taken: usize) -> Ahead {
 
 /// Whether what a source sent is dropped: it was told that no more comes, and asks for an
 /// acknowledgement.
-pub(crate) fn is_dropped(source: &SourcePeer) -> bool {
+pub(crate) fn is_dropped(source: &SourcePeer) -> bool
+    ensures { result ≡ true → asks source.now ≡ true }
+{
     match source.leave_stage() {
         LeaveStage::Leaves { .. } => source.asks(),
         _ => false,

@@ -2,14 +2,14 @@
 
 ghost use Rattle.std.specs.Prelude.{◌≡◌, ◌≢◌};
 ghost use Rattle.fwd_reader.specs.OpenConnections.{connection_at, without};
-ghost use Rattle.fwd_turns.specs.Keeping.{KeepsWaiting};
+ghost use Rattle.fwd_turns.specs.Keeping.{IsNoted, KeepsServed, KeepsWaiting};
 
 use crate::acceptor::{Acceptor, Incoming, ListenConfig, SourceSetup};
-use crate::draining::{is_dropped, read_leaving};
 use crate::loop_memory::LoopMemory;
 use crate::lost_servers::{LostServers, fact_of};
 use crate::places::{PlaceRule, free_place, part, tell_closed};
-use crate::visiting::{After, after_visit, note, serve_monitor, tell_end, write_at};
+use crate::visiting::{After, note, write_at};
+use crate::visitor::Visitor;
 use fwd_environment::WorkerEvent;
 use fwd_history::Run;
 use fwd_links::{Mailbox, Notices, RunClock, SharedFlags};
@@ -17,16 +17,13 @@ use fwd_listeners::tokens::{CONTROL, MONITORS, SOURCES, WAKER};
 use fwd_listeners::{Control, ControlAnswer};
 use fwd_monitors::{Figures, JournalEvent, MemoryFor, Observer, StartFault};
 use fwd_peers::{CloseReason, SocketPath, SourcePeer};
-use fwd_reader::{Connections, Output, PageParts, Peer, ReaderInboxes, Ready, Router};
+use fwd_reader::{Connections, Output, PageParts, Peer, ReaderInboxes, Router};
 use mio::{Events, Poll, Token, Waker};
 use std::alloc::Global;
 use std::net::Net;
 use std::rt::{Clock, Files};
 use std::sync::Wait;
 use std::time::Duration;
-
-/// The most bytes that a connection is read in a turn.
-const PIECE: usize = 65_536;
 
 /// How many events a wait tells at once. More are told by the next.
 const EVENTS: usize = 1_024;
@@ -83,8 +80,8 @@ pub struct EventLoop {
     alloc: Global,
     poll: Poll,
     events: Events,
-    /// What a visit reads: as many bytes as a connection may send in a turn.
-    room: Vec<u8>,
+    /// What reads connections, and what the loop knows of memory.
+    visitor: Visitor,
     /// The listeners, which the reader in front has.
     pub(crate) acceptor: Option<Acceptor>,
     /// The control socket, which the reader in front has where the settings name one.
@@ -95,7 +92,6 @@ pub struct EventLoop {
     idle_limit: Option<u64>,
     /// Something was ready or told in the last turn.
     was_at_work: bool,
-    memory: LoopMemory,
 }
 
 // A drop of its own is proved once, and not at each place where an event loop goes.
@@ -105,13 +101,12 @@ impl Drop for EventLoop {
             alloc: _,
             poll: _,
             events: _,
-            room: _,
+            visitor: _,
             acceptor: _,
             control: _,
             connections: _,
             idle_limit: _,
             was_at_work: _,
-            memory: _,
         } = self;
     }
 }
@@ -126,21 +121,19 @@ impl EventLoop {
         limits: ReaderLimits,
     ) -> Result<(EventLoop, Mailbox), StartFault> {
         let events = Events::with_capacity(alloc, EVENTS)?;
-        let room = vec![in alloc; 0; PIECE]?;
-        let memory = LoopMemory::new(flags.share()?);
+        let visitor = Visitor::new(alloc, LoopMemory::new(flags.share()?))?;
         let poll = Poll::new(rt).map_err(|_| StartFault::Poll)?;
         let mailbox = mailbox_of(alloc, &poll, flags)?;
         let event_loop = EventLoop {
             alloc,
             poll,
             events,
-            room,
+            visitor,
             acceptor: None,
             control: None,
             connections: Connections::new(alloc, limits.kept as usize),
             idle_limit: limits.idle_limit,
             was_at_work: false,
-            memory,
         };
         Ok((event_loop, mailbox))
     }
@@ -198,10 +191,10 @@ impl EventLoop {
             idle_limit: self.idle_limit,
             now,
         };
-        if self.memory.is_refused(now) {
-            self.memory.is_paused |= acceptor.sources.is_urgent();
+        if self.visitor.memory.is_refused(now) {
+            self.visitor.memory.is_paused |= acceptor.sources.is_urgent();
         } else if acceptor.accept_sources(rt, &mut incoming, observer) {
-            self.memory.refuse(now);
+            self.visitor.memory.refuse(now);
         }
         acceptor.accept_monitors(&mut incoming, observer);
         self.acceptor = Some(acceptor);
@@ -256,7 +249,7 @@ impl EventLoop {
         let source = Peer::Source(source);
         if self.connections.add(registry, source, now).is_err() {
             observer.observe(JournalEvent::Memory(MemoryFor::Source(peer)));
-            self.memory.refuse(now);
+            self.visitor.memory.refuse(now);
         }
     }
 
@@ -284,7 +277,7 @@ impl EventLoop {
     pub(crate) fn hear(&mut self, notices: &Notices) {
         for notice in &notices.all {
             if let WorkerEvent::Settled { .. } = notice.event {
-                self.memory.is_settled = true;
+                self.visitor.memory.is_settled = true;
             }
         }
     }
@@ -358,7 +351,7 @@ impl EventLoop {
     ) -> Result<(), StartFault> {
         let connections = &self.connections;
         let is_left = connections.ready() > 0 || connections.writable() > 0;
-        let longest = if self.memory.is_paused {
+        let longest = if self.visitor.memory.is_paused {
             router.patience(now, PAUSE)
         } else if is_left || self.is_urgent() {
             0
@@ -455,7 +448,8 @@ impl EventLoop {
         self.follow(rt, router, ready.key, after, now);
     }
 
-    /// What becomes of a connection behind a visit is noted, at a moment (milliseconds).
+    /// What becomes of a connection behind a visit is noted, at a moment (milliseconds). One that
+    /// is to be visited again stands in a queue then.
     fn follow<J: Run, R: Wait>(
         &mut self,
         rt: &R,
@@ -468,15 +462,19 @@ impl EventLoop {
             → connection_at self.new.connections ≡ connection_at self.old.connections }
         ensures goes { after ≡ After.Goes → connection_at self.new.connections
             ≡ without key (connection_at self.old.connections) }
+        ensures noted { IsNoted after self.new.connections key }
+        ensures router { router.new ≡ router.old }
     {
         match after {
-            After::Waits => return self.connections.note_waiting(key, now),
-            After::Kept => return self.connections.note_kept(key, now),
-            After::Goes => return part(rt, &mut self.connections, router, key),
-            After::Again => self.connections.note_ready(key, false),
-            After::Rests => {}
+            After::Waits => self.connections.note_waiting(key, now),
+            After::Kept => self.connections.note_kept(key, now),
+            After::Goes => part(rt, &mut self.connections, router, key),
+            After::Again => {
+                self.connections.note_ready(key, false);
+                self.connections.note_admitted(key);
+            }
+            After::Rests => self.connections.note_admitted(key),
         }
-        self.connections.note_admitted(key);
     }
 
     /// Reads each connection that is ready, once, and has what it asks for admitted: for some
@@ -490,7 +488,7 @@ impl EventLoop {
         clock: &mut RunClock<'_, R>,
     ) {
         let start = clock.moment();
-        self.memory.begin_reading(start);
+        self.visitor.memory.begin_reading(start);
         for _ in 0..self.connections.ready() {
             context.now = clock.moment();
             self.read_next(rt, context, observer);
@@ -498,47 +496,28 @@ impl EventLoop {
                 break;
             }
         }
-        self.memory.end_reading(observer, start);
+        self.visitor.memory.end_reading(observer, start);
     }
 
-    /// Reads the next connection that is ready.
+    /// Reads the next connection that is ready. A source of which a request waits that nobody sends
+    /// again stays then, but where the relay refused one of its requests.
     fn read_next<J: Run, R: Wait, W: Observer>(
         &mut self,
         rt: &R,
         context: &mut ReadContext<'_, '_, J>,
         observer: &mut W,
-    ) {
-        let Some(Ready { key, to_end }) = self.connections.next_ready() else {
+    )
+        ensures { KeepsServed context.old.router.now (connection_at self.old.connections)
+            context.new.router.now (connection_at self.new.connections) }
+    {
+        let Some(ready) = self.connections.next_ready() else {
             return;
         };
-        let Some(connection) = self.connections.at(key) else {
-            return;
-        };
-        let after = match connection {
-            Peer::Source(_) if self.memory.is_refused(context.now) => {
-                self.memory.is_paused = true;
-                After::Again
-            }
-            Peer::Source(source) => {
-                let again = read_leaving(source, self.alloc, &mut self.room, to_end, context.now);
-                let waits = !is_dropped(source)
-                    && context.router.admit_all(rt, source, context.now);
-                if tell_end(source, observer) {
-                    self.memory.refuse(context.now);
-                }
-                after_visit(source, again, waits, to_end)
-            }
-            Peer::Monitor(monitor) => {
-                match serve_monitor(rt, self.alloc, context, monitor, &mut self.room) {
-                    Ok(after) => after,
-                    Err(_) => {
-                        observer.observe(JournalEvent::Memory(MemoryFor::Monitor));
-                        After::Goes
-                    }
-                }
-            }
-        };
-        self.follow(rt, context.router, key, after, context.now);
+        let connections = &mut self.connections;
+        let after = self
+            .visitor
+            .read_at(rt, context, connections, ready, observer);
+        self.follow(rt, context.router, ready.key, after, context.now);
     }
 }
 

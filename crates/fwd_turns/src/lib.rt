@@ -16,6 +16,7 @@ mod places;
 mod reader;
 mod turns;
 mod visiting;
+mod visitor;
 
 pub use acceptor::{ListenConfig, MONITORS, SourceSetup};
 pub use event_loop::{EventLoop, ReaderLimits};

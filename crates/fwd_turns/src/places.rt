@@ -125,8 +125,9 @@ fn leave<J: Run, R: Wait>(
     router: &mut Router<'_, J>,
     key: usize,
 )
-    ensures { (other : ℕ) → other ≢ key
+    ensures others { (other : ℕ) → other ≢ key
         → connection_at connections.new other ≡ connection_at connections.old other }
+    ensures router { router.new ≡ router.old }
 {
     if let Some(Peer::Source(source)) = connections.at(key) {
         router.leave(rt, source);
@@ -141,7 +142,8 @@ pub(crate) fn part<J: Run, R: Wait>(
     router: &mut Router<'_, J>,
     key: usize,
 )
-    ensures { connection_at connections.new ≡ without key (connection_at connections.old) }
+    ensures gone { connection_at connections.new ≡ without key (connection_at connections.old) }
+    ensures router { router.new ≡ router.old }
 {
     leave(rt, connections, router, key);
     connections.remove(key);

@@ -187,6 +187,7 @@ pub(crate) fn read_source(
     ensures read { source.old.live.waiting ≡ [] → source.old.stage ≡ Open
         → length source.old.live.unsent < UNSENT
         → IsRead now to_end (length room.new) source.old result source.new }
+    ensures none { source.new.live.admitted ≡ source.old.live.admitted }
 {
     if source.waiting() > 0 {
         return true;

@@ -1,4 +1,5 @@
 use Rattle.std.proofs.Common.{arith, drop, length, length-append}
+use Rattle.fwd_turns.proofs.Reading.{gives_none}
 use Rattle.fwd_turns.proofs.visiting.read_source.Goals as goal
 
 pub returns-clause-read : goal.returns-clause-read
@@ -9,3 +10,9 @@ returns-clause-read c = λ none open_ few. record {
   heard = c.hear-again.ensures.read open_ few;
   after = c.judge.ensures;
 }
+
+pub returns-clause-none : goal.returns-clause-none
+returns-clause-none c =
+    gives_none c.args.now (length c.hear-again.new.room) c.args.to_end c.hear-again.result
+    c.args.source.now c.hear-again.new.self c.judge.new.source c.hear-again.ensures.closed
+    c.hear-again.ensures.held c.hear-again.ensures.read c.judge.ensures

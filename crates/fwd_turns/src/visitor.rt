@@ -1,0 +1,159 @@
+//! A visit that reads a connection.
+
+ghost use Rattle.std.specs.Prelude.{◌≡◌, ◌≢◌, true, false};
+ghost use Rattle.fwd_peers.specs.Peers.{PeerShown};
+ghost use Rattle.fwd_reader.specs.Admissions.{AdmitsAndWaits};
+ghost use Rattle.fwd_reader.specs.OpenConnections.{connection_at};
+ghost use Rattle.fwd_reader.specs.declared.peer.Peer.TheVariants.{Source};
+ghost use Rattle.fwd_turns.specs.Keeping.{IsDone, IsReadAt, IsReadTo, ReadsAndServes};
+
+use crate::draining::{is_dropped, read_leaving};
+use crate::event_loop::ReadContext;
+use crate::loop_memory::LoopMemory;
+use crate::visiting::{After, after_visit, serve_monitor, tell_end};
+use fwd_history::Run;
+use fwd_monitors::{JournalEvent, MemoryFor, MonitorPeer, Observer};
+use fwd_peers::SourcePeer;
+use fwd_reader::{Connections, Peer, Ready, Router};
+use std::alloc::{AllocError, Global};
+use std::sync::Wait;
+
+/// The most bytes that a connection is read in a turn.
+const PIECE: usize = 65_536;
+
+/// Reads connections.
+#[derive(Drop)]
+pub(crate) struct Visitor {
+    alloc: Global,
+    /// What a visit reads: as many bytes as a connection may send in a turn.
+    room: Vec<u8>,
+    /// What is known of memory.
+    pub memory: LoopMemory,
+}
+
+impl Visitor {
+    /// One that has read nothing. The only error is out of memory.
+    pub fn new(alloc: Global, memory: LoopMemory) -> Result<Visitor, AllocError> {
+        let room = vec![in alloc; 0; PIECE]?;
+        Ok(Visitor {
+            alloc,
+            room,
+            memory,
+        })
+    }
+
+    /// Reads the connection at a key, if one stands there, has what it asks for admitted, and says
+    /// what becomes of it.
+    pub fn read_at<J: Run, R: Wait, W: Observer>(
+        &mut self,
+        rt: &R,
+        context: &mut ReadContext<'_, '_, J>,
+        connections: &mut Connections,
+        ready: Ready,
+        observer: &mut W,
+    ) -> After
+        ensures { IsReadAt ready.key context.old.router.now (connection_at connections.old) result
+            context.new.router.now (connection_at connections.new) }
+    {
+        match connections.at(ready.key) {
+            None => After::Rests,
+            Some(connection) => self.read_peer(rt, context, connection, ready.to_end, observer),
+        }
+    }
+
+    /// The same, where the connection is at hand.
+    fn read_peer<J: Run, R: Wait, W: Observer>(
+        &mut self,
+        rt: &R,
+        context: &mut ReadContext<'_, '_, J>,
+        connection: &mut Peer,
+        to_end: bool,
+        observer: &mut W,
+    ) -> After
+        ensures { (source : PeerShown) → connection.old ≡ Source source
+            → IsReadTo context.old.router.now source result context.new.router.now
+            connection.new }
+    {
+        match connection {
+            Peer::Source(source) => self.read_source(rt, context, source, to_end, observer),
+            Peer::Monitor(monitor) => self.read_monitor(rt, context, monitor, observer),
+        }
+    }
+
+    /// The same of a monitor. It goes where memory is refused for its page, which an observer is
+    /// told.
+    fn read_monitor<J: Run, R: Wait, W: Observer>(
+        &mut self,
+        rt: &R,
+        context: &mut ReadContext<'_, '_, J>,
+        monitor: &mut MonitorPeer,
+        observer: &mut W,
+    ) -> After {
+        match serve_monitor(rt, self.alloc, context, monitor, &mut self.room) {
+            Ok(after) => after,
+            Err(_) => {
+                observer.observe(JournalEvent::Memory(MemoryFor::Monitor));
+                After::Goes
+            }
+        }
+    }
+
+    /// The same of a source. As long as memory is refused none is read.
+    fn read_source<J: Run, R: Wait, W: Observer>(
+        &mut self,
+        rt: &R,
+        context: &mut ReadContext<'_, '_, J>,
+        source: &mut SourcePeer,
+        to_end: bool,
+        observer: &mut W,
+    ) -> After
+        ensures { IsReadTo context.old.router.now source.old result context.new.router.now
+            (Source source.new) }
+    {
+        if self.memory.is_refused(context.now) {
+            self.memory.is_paused = true;
+            return After::Again;
+        }
+        self.serve(rt, context, source, to_end, observer)
+    }
+
+    /// Reads a source, has what waits there admitted as far as may be, and writes what it is sent.
+    /// An observer is told why the relay ends it, where it does.
+    fn serve<J: Run, R: Wait, W: Observer>(
+        &mut self,
+        rt: &R,
+        context: &mut ReadContext<'_, '_, J>,
+        source: &mut SourcePeer,
+        to_end: bool,
+        observer: &mut W,
+    ) -> After
+        ensures { ReadsAndServes context.old.router.now source.old result
+            context.new.router.now source.new }
+    {
+        let now = context.now;
+        let again = read_leaving(source, self.alloc, &mut self.room, to_end, now);
+        let waits = admit_waiting(rt, context.router, source, now);
+        if tell_end(source, observer) {
+            self.memory.refuse(now);
+        }
+        after_visit(source, again, waits, to_end)
+    }
+}
+
+/// Has what waits at a source admitted at a moment (milliseconds), as far as may be, and says
+/// whether some of it has to wait longer. What is dropped is not admitted.
+fn admit_waiting<J: Run, R: Wait>(
+    rt: &R,
+    router: &mut Router<'_, J>,
+    source: &mut SourcePeer,
+    now: u64,
+) -> bool
+    ensures waits { result ≡ true
+        → AdmitsAndWaits router.old source.old router.new source.new }
+    ensures done { result ≡ false → IsDone router.old source.old router.new source.new }
+{
+    if is_dropped(source) {
+        return false;
+    }
+    router.admit_all(rt, source, now)
+}
