@@ -20,6 +20,6 @@ pub use fault::WaitFault;
 pub use link::TcpHub;
 pub use mailbox::{DeniedLogin, Mailbox, Notices, RefusedChunk, WorkerNotice};
 pub use run_clock::{RunClock, unix_seconds};
-pub use shared_flags::SharedFlags;
+pub use shared_flags::{SharedFlags, Tightness};
 pub use system_limits::lacks_descriptors;
 pub use waiting::{SharedWait, WaitMode, WorkerWait, WorkerWaker};

@@ -26,6 +26,10 @@ pub struct SharedFlags {
     flags: Arc<Flags>,
 }
 
+/// Memory was refused to a reader for a source a short while ago, and the workers know it. It must
+/// be spent: by `end_tightness`, which tells them that it is longer ago.
+pub struct Tightness(());
+
 impl SharedFlags {
     /// Nobody is to end, nobody lacks memory, and nothing is read. The only error is out of memory.
     pub fn new(alloc: Global) -> Result<SharedFlags, AllocError> {
@@ -95,12 +99,14 @@ impl SharedFlags {
     }
 
     /// Memory was refused to a reader for a source a short while ago.
-    pub fn begin_tightness(&self) {
+    pub fn begin_tightness(&self) -> Tightness {
         self.flags.tight.fetch_add(1, Ordering::SeqCst);
+        Tightness(())
     }
 
     /// That is longer ago now.
-    pub fn end_tightness(&self) {
+    pub fn end_tightness(&self, tightness: Tightness) {
+        let Tightness(()) = tightness;
         self.flags.tight.fetch_sub(1, Ordering::SeqCst);
     }
 

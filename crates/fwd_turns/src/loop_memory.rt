@@ -1,9 +1,9 @@
 //! What a reader's loop knows of memory.
 
-ghost use Rattle.std.specs.Prelude.{◌≡◌, Some, true, false, not, if◌then◌else◌};
+ghost use Rattle.std.specs.Prelude.{◌≡◌, Some, true, false, is_some, not, if◌then◌else◌};
 ghost use Rattle.fwd_turns.specs.Refusals.{is_past};
 
-use fwd_links::SharedFlags;
+use fwd_links::{SharedFlags, Tightness};
 use fwd_monitors::{JournalEvent, MemoryFor, Observer};
 
 /// How long no source is read once memory was refused for one, in milliseconds. The next to ask
@@ -19,7 +19,6 @@ const SETTLED: u64 = 100;
 const TIGHT: u64 = 3_000;
 
 /// What the loop knows of memory.
-#[derive(Drop)]
 pub(crate) struct LoopMemory {
     flags: SharedFlags,
     /// When it was refused for a source last, in milliseconds, if it was.
@@ -30,8 +29,25 @@ pub(crate) struct LoopMemory {
     pub is_paused: bool,
     /// When that was told last, in milliseconds, if it was.
     told: Option<u64>,
-    /// It told the workers that memory was refused a short while ago.
-    is_tight: bool,
+    /// The workers know that memory was refused a short while ago.
+    tightness: Option<Tightness>,
+}
+
+// The workers are told that memory is not short any more.
+impl Drop for LoopMemory {
+    fn drop(self) {
+        let LoopMemory {
+            flags,
+            refused: _,
+            is_settled: _,
+            is_paused: _,
+            told: _,
+            tightness,
+        } = self;
+        if let Some(tightness) = tightness {
+            flags.end_tightness(tightness);
+        }
+    }
 }
 
 /// Whether so long (milliseconds) has passed at a moment since another one, if there was any.
@@ -53,7 +69,7 @@ impl LoopMemory {
             is_settled: false,
             is_paused: false,
             told: None,
-            is_tight: false,
+            tightness: None,
         }
     }
 
@@ -69,21 +85,31 @@ impl LoopMemory {
 
     /// Connections are about to be read at a moment (milliseconds).
     pub fn begin_reading(&mut self, now: u64)
-        ensures tight { self.new.is_tight ≡ not (is_past self.old.refused TIGHT now) }
+        ensures tight { is_some self.new.tightness ≡ not (is_past self.old.refused TIGHT now) }
         ensures paused { self.new.is_paused ≡ false }
         ensures refused { self.new.refused ≡ self.old.refused }
     {
         self.is_paused = false;
-        let is_tight = !is_past(self.refused, TIGHT, now);
-        if is_tight != self.is_tight {
-            self.is_tight = is_tight;
-            if is_tight {
-                self.flags.begin_tightness();
-            } else {
-                self.flags.end_tightness();
-            }
-        }
+        self.note_tightness(!is_past(self.refused, TIGHT, now));
         self.flags.begin_reading();
+    }
+
+    /// The workers know whether memory was refused a short while ago.
+    fn note_tightness(&mut self, is_tight: bool)
+        ensures tight { is_some self.new.tightness ≡ is_tight }
+        ensures kept { self.new ≡ record self.old { tightness = self.new.tightness } }
+    {
+        if is_tight == self.tightness.is_some() {
+            return;
+        }
+        let former = if is_tight {
+            self.tightness.replace(self.flags.begin_tightness())
+        } else {
+            self.tightness.take()
+        };
+        if let Some(tightness) = former {
+            self.flags.end_tightness(tightness);
+        }
     }
 
     /// Connections were read from a moment on (milliseconds). Where no source was, that is told,
