@@ -1,5 +1,5 @@
 -- What the outputs of a relay are, as its settings say it.
-use Rattle.std.specs.Prelude.{ℕ, Bool, true, false, List, [], ◌∷◌, length, map}
+use Rattle.std.specs.Prelude.{ℕ, ◌+◌, ◌++◌, Bool, true, false, List, [], ◌∷◌, length, map, replicate}
 use Rattle.std.specs.declared.net.socket_addr.SocketAddr.{SocketAddr}
 use Rattle.fwd_settings.specs.declared.settings.OutputSettings.{OutputSettings}
 use Rattle.fwd_settings.specs.declared.settings.WhenFull.{WhenFull}
@@ -51,6 +51,12 @@ abbrev pub all_made_of : List OutputParts → List Hop → List OutputShown
 all_made_of [] hops = []
 all_made_of (p ∷ ps) [] = []
 all_made_of (p ∷ ps) (hop ∷ hops) = made_of p hop ∷ all_made_of ps hops
+
+-- The workers of outputs of these configurations, each known by the number of its output: as many
+-- for each as its configuration says. The outputs are numbered from this one on.
+abbrev pub threads_of : (number : ℕ) → List OutputParts → List ℕ
+threads_of number [] = []
+threads_of number (p ∷ ps) = replicate p.workers number ++ threads_of (number + 1) ps
 
 -- the output of these settings
 abbrev pub shown_by : OutputSettings → OutputShown

@@ -11,11 +11,12 @@ ghost use Rattle.std.specs.Prelude.{
   ◌∷◌,
   length,
   map,
+  replicate,
   IfOk,
   OnOk,
 };
 ghost use Rattle.fwd_config.specs.Configs.{parts_known};
-ghost use Rattle.fwd_pools.specs.Pools.{all_made_of, locked_by, made_of, shown};
+ghost use Rattle.fwd_pools.specs.Pools.{all_made_of, locked_by, made_of, shown, threads_of};
 
 use crate::next_hops::NextHop;
 use crate::random_streams::RandomStreams;
@@ -97,6 +98,7 @@ impl<J: Run> WorkerPools<J> {
         ensures outputs { result.outputs.items ≡ [] }
         ensures intervals { result.intervals.items ≡ [] }
         ensures pages { result.pages ≡ pages }
+        ensures workers { result.workers.items ≡ [] }
     {
         WorkerPools {
             alloc,
@@ -126,6 +128,9 @@ impl<J: Run> WorkerPools<J> {
         // It is made of its own configuration and its own next hop, behind those that are there.
         ensures made { OnOk result (map shown self.new.outputs.items
             ≡ map shown self.old.outputs.items ++ made_of (parts_known config) next ∷ []) }
+        // Its own workers are there for it, behind those that are there.
+        ensures workers { OnOk result (self.new.workers.items
+            ≡ self.old.workers.items ++ replicate config.workers number) }
         ensures intervals { OnOk result (self.new.intervals.items
             ≡ self.old.intervals.items ++ config.limits.interval ∷ []) }
     {
@@ -165,8 +170,8 @@ impl<J: Run> WorkerPools<J> {
         Ok(())
     }
 
-    /// The history of the run as far as it is known before the first turn. Behind the outputs' pages
-    /// one more is left to know it by.
+    /// The history of the run as far as it is known before the first turn. Behind the outputs'
+    /// pages one more is left to know it by.
     pub fn reached(&mut self) -> ReachedHistory<J>
         requires { 0 < self.old.pages.1 }
         ensures nothing { result ≡ [] }
@@ -194,6 +199,8 @@ impl<J: Run> WorkerPools<J> {
         ensures intervals { self.new.intervals ≡ self.old.intervals }
         ensures pages { self.new.pages ≡ self.old.pages }
         ensures count { IfOk result (λ wakers. length wakers.items ≡ pool.now.workers) }
+        ensures workers { OnOk result (self.new.workers.items
+            ≡ self.old.workers.items ++ replicate pool.now.workers pool.now.number) }
     {
         let mut wakers = Vec::new(self.alloc);
         for number in 0..pool.workers {
@@ -217,6 +224,7 @@ pub fn pools_of<J: Run, R: Net>(
     hops: Vec<NextHop>,
 ) -> Result<WorkerPools<J>, StartFault>
     requires none { pools.outputs.items ≡ [] }
+    requires idle { pools.workers.items ≡ [] }
     requires pages { (pools.pages.0 ≡ 0) × (length configs.items ≤ pools.pages.1) }
     requires each { length hops.items ≡ length configs.items }
     requires few { length configs.items ≤ 64 }
@@ -224,6 +232,9 @@ pub fn pools_of<J: Run, R: Net>(
     ensures count { IfOk result (λ pools. length pools.outputs.items ≡ length configs.items) }
     ensures made { IfOk result (λ pools. map shown pools.outputs.items
         ≡ all_made_of (map parts_known configs.items) hops.items) }
+    // Each output has workers of its own, as many as its settings say.
+    ensures workers { IfOk result (λ pools. pools.workers.items
+        ≡ threads_of 0 (map parts_known configs.items)) }
 {
     let mut configs = configs.into_iter();
     let mut hops = hops.into_iter();

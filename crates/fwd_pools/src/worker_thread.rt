@@ -1,6 +1,6 @@
 //! A worker over TCP, in a thread of its own.
 
-ghost use Rattle.std.specs.Prelude.{◌≡◌, None, Some, IfSome, slice_get};
+ghost use Rattle.std.specs.Prelude.{◌≡◌, None, Some, IfOk, IfSome, slice_get};
 
 use fwd_environment::{Denial, Gate, Pass, Place, Refused, WorkerEvent};
 use fwd_history::Run;
@@ -10,8 +10,9 @@ use fwd_links::{
 };
 use fwd_monitors::StartFault;
 use fwd_reader::{Output, ReaderInboxes};
-use fwd_workers::Worker;
+use fwd_workers::{Worker, WorkerEnd};
 use std::alloc::Global;
+use std::marker::Model;
 use std::net::Net;
 use std::rt::Clock;
 use std::sync::Wait;
@@ -246,18 +247,27 @@ impl<'a, J: Run, N: Net> Workplace<'a, J, N> {
         worker: &mut Worker,
         clock: &mut RunClock<'_, R>,
         turns: u64,
-    ) {
+    ) -> WorkerEnd {
         let Workplace { mut gate, mut hub } = self;
         let output = gate.output;
-        worker.run(rt, &output.shared, (), &mut hub, &mut gate, clock, turns);
+        let ((), ended) = worker.run(rt, &output.shared, (), &mut hub, &mut gate, clock, turns);
+        ended
     }
 }
 
-/// A worker before its thread runs.
+/// A worker before its thread runs. In contracts it is the number of its output.
 pub struct WorkerThread {
     output: u16,
     worker: Worker,
     wait: SharedWait,
+}
+
+impl Model for WorkerThread {
+    ghost use Rattle.std.specs.Prelude.{ℕ};
+
+    ghost Value = { ℕ };
+
+    ghost view = { λ thread. thread.output };
 }
 
 // A drop of its own is proved once, and not at each place where a worker goes.
@@ -278,7 +288,9 @@ impl WorkerThread {
         alloc: Global,
         output: u16,
         worker: Worker,
-    ) -> Result<(WorkerThread, WorkerWaker), StartFault> {
+    ) -> Result<(WorkerThread, WorkerWaker), StartFault>
+        ensures { IfOk result (λ p. p.0 ≡ output) }
+    {
         let (wait, waker) = WorkerWait::new(rt, alloc)?;
         let thread = WorkerThread {
             output,
@@ -288,19 +300,21 @@ impl WorkerThread {
         Ok((thread, waker))
     }
 
-    /// Works for its output in so many turns, or until all are to end.
+    /// Works for its output in so many turns, or until all are to end, and says how that ended.
+    /// Where there is no output of its number it does nothing.
     pub fn work<J: Run, R: Net + Wait + Clock + AllocGlobal>(
         &mut self,
         rt: &R,
         around: WorkerSurroundings<'_, J>,
         turns: u64,
-    ) {
-        let Some(place) = Workplace::of(rt, around, self.output, &self.wait) else {
-            return;
-        };
+    ) -> Option<WorkerEnd>
+        ensures none { result ≡ None → slice_get around.entry.outputs.now self.old ≡ None }
+    {
+        let place = Workplace::of(rt, around, self.output, &self.wait)?;
         let mut clock = RunClock::new(rt, around.start);
         self.wait.lock(rt).refill(around.flags);
-        place.run(rt, &mut self.worker, &mut clock, turns);
+        let ended = place.run(rt, &mut self.worker, &mut clock, turns);
         self.wait.lock(rt).end_lack(around.flags);
+        Some(ended)
     }
 }

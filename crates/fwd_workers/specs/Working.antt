@@ -170,8 +170,8 @@ HasTakenFirst (state.Loaded upstream) told s now before = ⊥
 HasTakenFirst (state.Settled upstream) told s now before = ⊥
 
 -- A worker whose session stands: it takes a chunk once that session is ready, for just that
--- session; or it has one that begins in its place, and no chunk. Else it goes on standing. Where the session ends the worker has nothing, and a server that
--- owed nothing is not said to be lost.
+-- session; or it has one that begins in its place, and no chunk. Else it goes on standing. Where
+-- the session ends the worker has nothing, and a server that owed nothing is not said to be lost.
 abbrev pub HasTakenNext : {L : Type 0} {g : _} → WorkerState L g → Option WorkerEvent → LiveSession
     → (now : ℕ) → (before : List Call) → (ℕ → Setup) → Type 0
 HasTakenNext state.Idle told s now before setups =

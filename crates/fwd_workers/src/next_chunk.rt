@@ -56,7 +56,8 @@ pub(crate) struct Way {
     pub(crate) was_lost_here: bool,
 }
 
-/// The way that a worker is to go for a chunk from its session with this server, if it is to go one.
+/// The way that a worker is to go for a chunk from its session with this server, if it is to go
+/// one.
 pub(crate) fn way_of(view: ServerView, offer: Offer, own: u16) -> Option<Way>
     ensures server { option_map (λ w. w.server) result ≡ way_over offer.losses
         (has_server offer.lost_at.members own) offer.elsewhere view.server own }

@@ -22,13 +22,17 @@ use rand_chacha::ChaCha20Rng;
 use std::alloc::Global;
 use std::sync::{Arc, Wait};
 
-/// Why a worker's run ended.
+/// How a worker's run ended. Only `Worker::run` makes one.
 #[derive(Clone, Copy)]
-pub enum WorkerEnd {
-    /// The gate stopped it.
-    Stopped,
-    /// It made all its turns.
-    TurnsSpent,
+pub struct WorkerEnd {
+    is_stopped: bool,
+}
+
+impl WorkerEnd {
+    /// Whether the gate stopped it. Else it made all its turns.
+    pub fn is_stopped(self) -> bool {
+        self.is_stopped
+    }
 }
 
 /// A worker of an output.
@@ -134,7 +138,7 @@ impl Worker {
                 Pass::Hold => {}
                 Pass::Stop => {
                     finish(&context, &mut seat, state);
-                    return (seat, WorkerEnd::Stopped);
+                    return (seat, WorkerEnd { is_stopped: true });
                 }
             }
         }
@@ -146,7 +150,7 @@ impl Worker {
             leaves_open: 0,
         };
         finish(&context, &mut seat, state);
-        (seat, WorkerEnd::TurnsSpent)
+        (seat, WorkerEnd { is_stopped: false })
     }
 
     /// The gate is told what the turn came to.

@@ -147,9 +147,10 @@ impl<J: Run> Telling<J> {
 
     /// How the run ended, and what the output counts then.
     fn note_end<R: Wait>(&self, rt: &R, ended: WorkerEnd) {
-        let how = match ended {
-            WorkerEnd::Stopped => "stopped",
-            WorkerEnd::TurnsSpent => "turns spent",
+        let how = if ended.is_stopped() {
+            "stopped"
+        } else {
+            "turns spent"
         };
         let counts = self.out.counts(rt);
         let (accepted, settled, held) = (counts.accepted, counts.settled, counts.held);

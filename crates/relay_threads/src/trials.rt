@@ -13,7 +13,7 @@ use anyhow::Result;
 use fwd_history::Run;
 use fwd_model::FlushKind;
 use fwd_output::{Closing, Ledgered, Locked, OpenedOutputs, SharedOutput, Tally, open};
-use fwd_workers::{Gate, LinkFault, LossReason, Pass, Place, Worker, WorkerEnd, WorkerEvent};
+use fwd_workers::{Gate, LinkFault, LossReason, Pass, Place, Worker, WorkerEvent};
 use rand_chacha::ChaCha20Rng;
 use rand_core::SeedableRng;
 use std::alloc::{AllocError, Global};
@@ -153,7 +153,7 @@ impl Trial {
         let rng = ChaCha20Rng::from_seed([0; 32]);
         let mut worker = Worker::new(alloc, 0, login, terms(self.window), rng);
         let (seat, ended) = worker.run(rt, out, seat, &mut hub, &mut gate, &mut clock, TURNS);
-        if ended == WorkerEnd::TurnsSpent {
+        if !ended.is_stopped() {
             witness.record.note(rt, ", turns spent");
         }
         seat

@@ -6,7 +6,7 @@ use crate::batches::{MESSAGE, batch, login, terms};
 use crate::memory::{Open, Still, Wires};
 use fwd_model::Origin;
 use fwd_output::{SharedOutput, Tally, Ticket};
-use fwd_workers::{Gate, Worker, WorkerEnd};
+use fwd_workers::{Gate, Worker};
 use rand_chacha::ChaCha20Rng;
 use rand_core::SeedableRng;
 use std::alloc::Global;
@@ -112,7 +112,7 @@ pub fn works<A: Tally, S: Tally, G: Gate, R: Wait>(
     let mut worker = Worker::new(alloc, number, login, terms(window), rng);
     let mut hub = Wires(alloc);
     let (seat, ended) = worker.run(rt, out, seat, &mut hub, gate, &mut Still, 10_000);
-    (seat, ended == WorkerEnd::Stopped)
+    (seat, ended.is_stopped())
 }
 
 /// How many of the tickets have receipts now, and how many are left, which are abandoned.

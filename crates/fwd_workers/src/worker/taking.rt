@@ -31,9 +31,9 @@ use std::mem;
 use std::sync::Wait;
 
 impl Worker {
-    /// What the worker finds for this use in its output. Only now are chunks closed that are due, so
-    /// that entries go on joining them while all workers are at work, and none that is left open a
-    /// little longer. That it takes for this worker no clause can see through the lock: it is
+    /// What the worker finds for this use in its output. Only now are chunks closed that are due,
+    /// so that entries go on joining them while all workers are at work, and none that is left open
+    /// a little longer. That it takes for this worker no clause can see through the lock: it is
     /// tested.
     pub(super) fn look_for<A: Tally, S: Tally, R: Wait>(
         &self,

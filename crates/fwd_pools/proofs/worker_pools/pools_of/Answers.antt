@@ -1,7 +1,7 @@
 use Rattle.std.proofs.Common.{◌≡◌, ◌∙◌, ◌++◌, length, map, sym, ap, arith}
 use Rattle.std.specs.Vec.Iter.{into_iter_items, into_iter_len}
 use Rattle.fwd_config.specs.Configs.{parts_known}
-use Rattle.fwd_pools.specs.Pools.{all_made_of, shown}
+use Rattle.fwd_pools.specs.Pools.{all_made_of, shown, threads_of}
 use Rattle.fwd_pools.proofs.worker_pools.pools_of.Goals as goal
 
 pub loop-config-init : goal.loop-config-init
@@ -14,6 +14,7 @@ loop-config-init g c =
       each = hops ∙ c.requires.each ∙ sym configs;
       count = omega (arith, configs, none);
       made = λ i. map shown (c.requires.none i) ++ all_made_of (map parts_known (c.into_iter-configs.ensures.rest i)) (c.into_iter-hops.ensures.rest i);
+      workers = λ i. c.requires.idle i ++ threads_of (none i) (map parts_known (c.into_iter-configs.ensures.rest i));
       number = omega (arith, none, c.requires.pages.0);
       left = omega (arith, none);
     }

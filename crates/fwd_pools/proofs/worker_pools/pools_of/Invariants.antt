@@ -1,7 +1,7 @@
 use Rattle.std.specs.Prelude.{◌≡◌, ◌+◌, ◌++◌, length, map}
 use Rattle.std.specs.Vec.Iter.{into_iter_items, into_iter_len}
 use Rattle.fwd_config.specs.Configs.{parts_known}
-use Rattle.fwd_pools.specs.Pools.{all_made_of, shown}
+use Rattle.fwd_pools.specs.Pools.{all_made_of, shown, threads_of}
 use Rattle.fwd_pools.proofs.worker_pools.pools_of.Given as goal
 
 abbrev pub decreases-loop-config : goal.decreases-loop-config
@@ -16,6 +16,9 @@ invariant-loop-config g l = record {
   made : map shown l.pools.outputs.items
       ++ all_made_of (map parts_known (into_iter_items l.configs)) (into_iter_items l.hops)
       ≡ all_made_of (map parts_known l.fn.configs.items) l.fn.hops.items;
+  workers : l.pools.workers.items
+      ++ threads_of (length l.pools.outputs.items) (map parts_known (into_iter_items l.configs))
+      ≡ threads_of 0 (map parts_known l.fn.configs.items);
   number : l.pools.pages.0 ≡ length l.pools.outputs.items;
   left : l.pools.pages.1 + length l.pools.outputs.items ≡ l.fn.pools.pages.1;
 }
