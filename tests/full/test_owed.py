@@ -88,3 +88,25 @@ def test_beside_what_is_held(relay, next_hop):
         assert [each.told() for _ in range(count)] == ["x"] * count
     for tag in TAGS:
         source.ask(f"{tag}.")
+
+
+def test_what_is_owed_is_sent(relay, next_hop):
+    """A source that may be owed no more does not wait until chunks are due: what would make it owed less is sent before."""
+    keys = {
+        "servers": [next_hop().port],
+        "full": "wait",
+        "total_limit": 1_000_000,
+        "flush_interval": 10 * DEADLINE * 1_000,
+    }
+    one = relay([keys], readers=1)
+    source, tag = one.source(timeout=DEADLINE), TAGS[0] + LONG
+    count = LIMIT // taken(tag, "x")
+    for _ in range(count):
+        source.send(tag, [(0, {})], chunk="x")
+    told = 0
+    try:
+        while told < count // 2:
+            source.told()
+            told += 1
+    except TimeoutError:
+        pytest.fail(f"of {count} requests {told} are acknowledged")

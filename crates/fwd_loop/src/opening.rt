@@ -75,7 +75,7 @@ impl<'a, J: Run> WorkerTurns<'a, J> {
     /// Works for its output in so many turns, or until all workers are to end.
     pub fn work<R: Net + Wait + Clock + AllocGlobal>(self, rt: &R, turns: u64) {
         let WorkerTurns { thread, around } = self;
-        thread.work(rt, around, turns);
+        let _ = thread.work(rt, around, turns);
     }
 }
 

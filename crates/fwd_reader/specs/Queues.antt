@@ -68,8 +68,8 @@ made_queued now o =
 abbrev pub made_kept : OpenConnection → OpenConnection
 made_kept o = record o { is_kept = true }
 
--- the connections once the other side of the one at a key is gone: it takes no place, where fewer do
--- not than may
+-- the connections once the other side of the one at a key is gone: it takes no place, where fewer
+-- do not than may
 abbrev pub kept_at : (kept limit : ℕ) → (key : ℕ) → slots.Slab OpenConnection
     → slots.Slab OpenConnection
 kept_at kept limit key opened =

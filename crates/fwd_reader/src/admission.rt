@@ -34,8 +34,8 @@
 //! receipt was collected, a source left the line, or the reader has its turn. It is looked at in
 //! each turn of the reader (`tend`). Where another reader has its turn, or may have room, all are
 //! called (`passes_on`). And a reader hears of what is settled as long as it is owed anything or
-//! sources wait there (`rest`). While sources wait for room, chunks are sent before they are due
-//! (`Router::flush`): only what is sent makes room.
+//! sources wait there (`rest`). While sources wait, chunks are sent before they are due
+//! (`Router::flush`): only what is sent makes room, and is answered.
 //!
 //! **Who gives up.** Where all places are taken, a source that waits may have to give its own to a
 //! new one (`EvictionCandidate`; the rule is in `places.rt` of `fwd_turns`). One whose other side
@@ -221,10 +221,11 @@ impl<'a, J: Run> Admission<'a, J> {
         self.is_moved = self.is_moved || is_moved;
     }
 
-    /// Whether sources wait for room at the output at a place.
+    /// Whether sources of any reader wait at the output at a place: for room, or since too much is
+    /// owed.
     pub fn has_waiting(&self, place: usize) -> bool {
-        match self.lines.get(place) {
-            Some(line) => line.has_waiting(),
+        match self.outputs.get(place) {
+            Some(own) => own.admission.waiting_sources() > 0,
             None => false,
         }
     }

@@ -122,7 +122,7 @@ impl FlushTimer {
         self.rests = now.saturating_add(1);
     }
 
-    /// Sources wait for room at this moment: the output is looked at again soon, also where what is
+    /// Sources wait at this moment: the output is looked at again soon, also where what is
     /// open was admitted by another reader.
     pub(crate) fn hasten(&mut self, now: u64)
         ensures some { is_some self.new.due ≡ true }

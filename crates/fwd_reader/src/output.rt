@@ -60,8 +60,8 @@ impl<J: Run> Output<J> {
         self.shared.counts(rt).held == 0
     }
 
-    /// Whether a chunk may have been closed by its size: the output holds more bytes of entries than
-    /// a chunk has at most.
+    /// Whether a chunk may have been closed by its size: the output holds more bytes of entries
+    /// than a chunk has at most.
     pub(crate) fn has_more_than_a_chunk<R: Wait>(&self, rt: &R) -> bool {
         self.shared.counts(rt).bytes > self.chunk
     }

@@ -164,8 +164,8 @@ impl<'a, J: Run> OutputRoute<'a, J> {
     /// Closes the chunks that are due at a moment (milliseconds) after all admissions, and wakes a
     /// worker for each. Where no worker looks for a chunk, what is due is left open for more
     /// entries: the next worker to look closes it. Where one looks and another chunk is under way,
-    /// it is left open a little longer. Where it is urgent, since sources wait for room or the relay
-    /// drains, all chunks are due: only what is sent makes room.
+    /// it is left open a little longer. Where it is urgent, since sources wait or the relay drains,
+    /// all chunks are due: only what is sent makes room, and is answered.
     pub fn flush<R: Wait>(&mut self, rt: &R, now: u64, is_urgent: bool)
         ensures { self.new.open_tickets ≡ self.old.open_tickets }
     {

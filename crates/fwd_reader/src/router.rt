@@ -326,8 +326,8 @@ impl<'a, J: Run> Router<'a, J> {
     }
 
     /// Closes the chunks that are due at a moment (milliseconds) after all admissions; and all of
-    /// an output at which sources wait for room, or of each where the relay drains, where a worker
-    /// could send them.
+    /// an output at which sources wait, or of each where the relay drains, where a worker could
+    /// send them.
     pub fn flush<R: Wait>(&mut self, rt: &R, now: u64, is_draining: bool)
         ensures { self.new ≡ self.old }
     {
