@@ -455,7 +455,7 @@ impl Buffer {
 
     /// Tells of the chunk that a worker would be given at a moment (milliseconds), if there is one.
     /// Nothing is taken, and the greatest moment stays as it was.
-    pub fn wanted(&self, wanted: Wanted, now: u64) -> Option<FreeChunk>
+    pub fn free_chunk(&self, wanted: Wanted, now: u64) -> Option<FreeChunk>
         ensures { result ≡ option_map live_free_chunk
             (live_given_for (live_looks self.now now) wanted) }
     {

@@ -1,3 +1,5 @@
+//! What is told of a chunk that is free.
+
 /// A chunk that a worker may have.
 #[derive(Clone, Copy)]
 pub struct FreeChunk {

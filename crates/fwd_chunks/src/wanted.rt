@@ -1,3 +1,5 @@
+//! What a worker wants of what is free.
+
 ghost use Rattle.std.specs.Prelude.{◌≡◌};
 ghost use Rattle.fwd_chunks.specs.History.{moment_for};
 

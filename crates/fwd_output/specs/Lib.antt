@@ -2,9 +2,9 @@
 -- OutputEvents: its own events, and the histories that they reach. HandedBack: the chunks that
 -- workers have, and what goes back. Seats: who may raise a counter. Tickets: what was admitted, and
 -- which receipts are right for it. Turns: what one turn under the lock does. ChunkStarts: when the
--- chunks were begun that are not settled. Elsewhere: where a chunk goes that was lost. Looks: what a
--- worker sees, and how it takes a chunk by that. RunEvents: what happens to the outputs of a run, in
--- one history, and what an output is after it.
+-- chunks were begun that are not settled. Elsewhere: where a chunk goes that was lost. Looks: what
+-- a worker sees, and how it takes a chunk by that. RunEvents: what happens to the outputs of a run,
+-- in one history, and what an output is after it.
 pub mod Coupling
 pub mod OutputEvents
 pub mod HandedBack

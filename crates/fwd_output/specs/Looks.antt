@@ -68,9 +68,9 @@ is_server None own = false
 is_server (Some server) own = server == own
 
 -- Whether a worker looks for a chunk for a use, by what it sees: what another worker claims is left
--- to it, unless a session was sought for it. A session is begun only where there is a server to try.
--- A chunk is added to others only where their session's own server is the one to try, and known to
--- work. A server is asked once more only where that is another.
+-- to it, unless a session was sought for it. A session is begun only where there is a server to
+-- try. A chunk is added to others only where their session's own server is the one to try, and
+-- known to work. A server is asked once more only where that is another.
 abbrev pub may_look : ServerView → ChunkUse → Bool
 may_look view chunk_use.Begin = not view.is_claimed && is_some view.server
 may_look view (chunk_use.Keep own) = true

@@ -48,11 +48,6 @@ pub struct ServerView {
 }
 
 impl ServerView {
-    /// The server that the worker is to try, where free chunks are left to nobody else.
-    pub fn open_server(self) -> Option<u16> {
-        if self.is_claimed { None } else { self.server }
-    }
-
     /// The server for a chunk that was lost before: one that is known to work, where there is one,
     /// and else this one, which the worker is to try.
     pub fn server_for_lost(self, server: u16) -> u16

@@ -76,7 +76,7 @@ impl<A: Tally, S: Tally> Locked<A, S> {
         if !self.wants_fresh(view, chunk_use) {
             return Wanted::Any;
         }
-        match self.state.now().wanted(Wanted::Fresh, now) {
+        match self.state.now().free_chunk(Wanted::Fresh, now) {
             Some(_) => Wanted::Fresh,
             None => Wanted::Any,
         }
@@ -102,7 +102,7 @@ impl<A: Tally, S: Tally> Locked<A, S> {
         ensures losses { option_map (λ o. o.losses) result ≡ option_map (λ c. times_lost c.losses)
             (live_given_for (live_looks self.now.output.buffer now) wanted) }
     {
-        let free = self.state.now().wanted(wanted, now)?;
+        let free = self.state.now().free_chunk(wanted, now)?;
         let (lost_at, elsewhere) = self.way_of(free.number, worker, now);
         Some(Offer {
             number: free.number,
