@@ -24,8 +24,9 @@ use Rattle.fwd_laws.specs.Joined.{output_at, seen_at, Carries, IsOpen, bare, led
 use Rattle.fwd_laws.specs.Nameless.{nameless}
 use Rattle.fwd_laws.proofs.Own.{past-found, past-check}
 use Rattle.fwd_laws.proofs.Carried.{carried}
-use Rattle.fwd_laws.proofs.Fates.{unmarked_output, bare-leads, lead-led, opening-unmarked}
-use Rattle.fwd_laws.proofs.Receiving.{IsReceiptOf, receipt-of, is-told}
+use Rattle.fwd_laws.proofs.Fates.{bare-leads, lead-led, opening-unmarked}
+use Rattle.fwd_run.proofs.Marks.{unmarked_output}
+use Rattle.fwd_run.proofs.Receiving.{IsReceiptOf, receipt-of, is-told}
 
 -- an output that has this history
 record Stands (h : History) (o : ℕ) (p : OutputHistory) : Type 0 where

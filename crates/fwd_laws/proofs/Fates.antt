@@ -10,36 +10,7 @@ use Rattle.fwd_model.specs.History.{Lane, new_lanes, opening}
 use Rattle.fwd_output.specs.OutputEvents.{OutputEvent, Lead, output_next}
 use Rattle.fwd_output.specs.OutputEvents.OutputEvent.{Enter, Flush, Look, Take, Settle, End, PutBack, Tell, Forget, ForgetAll}
 use Rattle.fwd_laws.specs.Joined.{output_at, is_of_fates, bare, led}
-
--- nothing became of a request, of any
-abbrev pub unmarked : Admission → Admission
-unmarked a = record { request = a.request; fate = Untold }
-
-abbrev pub unmarked_book : BookHistory → BookHistory
-unmarked_book b = record b { admissions = map unmarked b.admissions }
-
-abbrev pub unmarked_output : OutputHistory → OutputHistory
-unmarked_output p = record p { book = unmarked_book p.book }
-
-unmarked-push : (ads : List Admission) (a : Admission)
-    → map unmarked (ads ++ a ∷ []) ≡ map unmarked ads ++ unmarked a ∷ []
-unmarked-push [] a = refl
-unmarked-push (b ∷ ads) a = ap (λ xs. unmarked b ∷ xs) (unmarked-push ads a)
-
-unmarked-becomes : (fate : Fate) (b : Bool) (a : Admission) → unmarked (becomes fate b a) ≡ unmarked a
-unmarked-becomes fate true a = refl
-unmarked-becomes fate false a = refl
-
-unmarked-all : (fate : Fate) (gone : Admission → Bool) (ads : List Admission)
-    → map unmarked (map (λ a. becomes fate (is_untold a.fate && gone a) a) ads) ≡ map unmarked ads
-unmarked-all fate gone [] = refl
-unmarked-all fate gone (a ∷ ads) =
-    λ i. unmarked-becomes fate (is_untold a.fate && gone a) a i ∷ unmarked-all fate gone ads i
-
-unmarked-leaves : (fate : Fate) (gone : Admission → Bool) (b : BookHistory)
-    → unmarked_book (leaves fate gone b) ≡ unmarked_book b
-unfolding leaves
-unmarked-leaves fate gone b = ap (λ ads. record b { admissions = ads }) (unmarked-all fate gone b.admissions)
+use Rattle.fwd_run.proofs.Marks.{unmarked, unmarked_book, unmarked_output, unmarked-push, unmarked-leaves}
 
 unmarked-next : (own : OutputEvent) (p : OutputHistory)
     → unmarked_output (output_next p own)

@@ -10,7 +10,7 @@ use Rattle.fwd_session.specs.ServerAcks.{ServerAck}
 use Rattle.fwd_book.specs.History.{Entered, Admission, is_due, is_origin, is_settled, is_untold, request_at}
 use Rattle.fwd_book.specs.Receipts.{Receipt, once, receipt_if, receipt_of, receipts}
 use Rattle.fwd_model.specs.Books.{numbers_of}
-use Rattle.fwd_laws.proofs.Fates.{unmarked}
+use Rattle.fwd_run.proofs.Marks.{unmarked}
 
 -- the request is one of those that were entered
 abbrev pub IsEntered : Entered → List Admission → Type 0
