@@ -10,6 +10,7 @@ GONE = 4_000
 CROWD = 100
 PLACES = 200
 ASKS = 200
+MANY = 900
 
 
 def begin_to_wait(one):
@@ -71,3 +72,25 @@ def test_who_waits_costs_nothing(relay, next_hop):
     time.sleep(2)
     assert one.processor() - before < 0.5
     waits.close()
+
+
+def idle_cost(relay, next_hop, count):
+    """The relay's processor seconds for a while in which so many sources wait, and nothing is settled."""
+    keys = {"servers": [next_hop(answer=hold).port], "full": "wait", "total_limit": 1_000}
+    one = relay([keys], connections=1_000, metrics=True)
+    with one.source() as first:
+        first.send("a", [(1, {"n": "x" * 800})])
+        one.await_page(lambda it: it.accepted == 1)
+    waits = [begin_to_wait(one) for _ in range(count)]
+    one.until(lambda: one.metric('forward_relay_waiting_sources{output="0"}') == count, "they do not wait")
+    before = one.processor()
+    time.sleep(10)
+    spent = one.processor() - before
+    for source in waits:
+        source.close()
+    return spent
+
+
+def test_who_waits_is_not_asked_in_each_turn(relay, next_hop):
+    """Where nothing is settled, many that wait cost the relay what one does."""
+    assert idle_cost(relay, next_hop, MANY) < 2 * idle_cost(relay, next_hop, 1) + 0.25
