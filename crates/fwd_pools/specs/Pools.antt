@@ -1,5 +1,18 @@
 -- What the outputs of a relay are, as its settings say it.
-use Rattle.std.specs.Prelude.{ℕ, ◌+◌, ◌++◌, Bool, true, false, List, [], ◌∷◌, length, map, replicate}
+use Rattle.std.specs.Prelude.{
+  ℕ,
+  ◌+◌,
+  ◌++◌,
+  Bool,
+  true,
+  false,
+  List,
+  [],
+  ◌∷◌,
+  length,
+  map,
+  replicate,
+}
 use Rattle.std.specs.declared.net.socket_addr.SocketAddr.{SocketAddr}
 use Rattle.fwd_settings.specs.declared.settings.OutputSettings.{OutputSettings}
 use Rattle.fwd_settings.specs.declared.settings.WhenFull.{WhenFull}

@@ -48,8 +48,8 @@ use Rattle.fwd_model.specs.Names.{Named, Connection, Output, Session, is_accept,
 
 -- The run begins, with these settings. Or there is an event of the abstract relay. Or requests of
 -- some origins are owed an answer at an output no more: they were answered, or nobody is to be told
--- of them. The abstract relay tells of a connection's requests in one event; a reader asks an output
--- for those that it waits for.
+-- of them. The abstract relay tells of a connection's requests in one event. A reader asks an output
+-- only for those that it waits for.
 pub data RunEvent : Type 0 where
   Opens : (config : Config) → RunEvent
   Relay : (e : Event) → RunEvent
@@ -96,24 +96,26 @@ abbrev pub run_after : List RunEvent → Option LiveRelay
 run_after [] = None
 run_after (e ∷ past) = moved (run_after past) e
 
--- the settings with which it began
+-- the settings with which it began, once an event is added
 abbrev pub begun : Option Config → RunEvent → Option Config
 begun None (Opens config) = Some config
 begun None (Relay e) = None
 begun None (Leave o origins) = None
 begun (Some config) e = Some config
 
+-- the settings with which it began, after a history
 abbrev pub config_of : List RunEvent → Option Config
 config_of [] = None
 config_of (e ∷ past) = begun (config_of past) e
 
--- the events of the abstract relay since then, the oldest first
+-- the events of the abstract relay since then, the oldest first, once an event is added
 abbrev pub with_event : Option Config → RunEvent → List Event → List Event
 with_event None e es = es
 with_event (Some config) (Opens other) es = es
 with_event (Some config) (Relay e) es = es ++ e ∷ []
 with_event (Some config) (Leave o origins) es = es
 
+-- those events, after a history
 abbrev pub relay_events : List RunEvent → List Event
 relay_events [] = []
 relay_events (e ∷ past) = with_event (config_of past) e (relay_events past)
@@ -150,16 +152,19 @@ abbrev pub seen : {X : Type 0} → (LiveRelay → Option X) → Option LiveRelay
 seen see None = None
 seen see (Some r) = see r
 
--- after a history: an output, a worker of an output, a connection, and the last id that was given
+-- after a history: an output
 abbrev pub output_at : List RunEvent → ℕ → Option LiveOutput
 output_at past o = seen (λ r. output_in r o) (run_after past)
 
+-- a worker of an output
 abbrev pub worker_at : List RunEvent → (output worker : ℕ) → Option (Worker LiveSession)
 worker_at past o w = seen (λ r. worker_in r o w) (run_after past)
 
+-- a connection, by its id
 abbrev pub source_at : List RunEvent → (id : ℕ) → Option LiveSource
 source_at past id = seen (λ r. source_in r id) (run_after past)
 
+-- the last id that was given
 abbrev pub last_id : List RunEvent → Option ℕ
 last_id past = seen (λ r. r.last) (run_after past)
 
