@@ -349,6 +349,24 @@ def test_progress_and_last_page(stoppable):
     assert (stoppable.folder / "page").read_text().startswith("output 0 accepted 7 settled 0 held 7 ")
 
 
+def test_last_page_of_two_outputs(stoppable, next_hop):
+    """The last page has the counts of each output, in the settings' order."""
+    first, second = next_hop(), next_hop()
+    outputs = [{"match": "a", "servers": [first.port]}, {"servers": [second.port]}]
+    with open(stoppable.folder / "page", "wb") as page:
+        one = stoppable(outputs, stdout=page)
+        source = one.source()
+        source.send("a", numbered(2), chunk="2")
+        source.send("b", numbered(3), chunk="3")
+        assert sorted((source.told(), source.told())) == ["2", "3"]
+        assert one.stop(4).status == one.ended() == 0
+    lines = (stoppable.folder / "page").read_text().splitlines()
+    assert [line for line in lines if line.startswith("output ")] == [
+        f"output {number} accepted {count} settled {count} held 0 bytes 0 chunks 0"
+        for number, count in enumerate((2, 3))
+    ]
+
+
 def test_a_second_one_shortens_the_wait(stoppable, next_hop):
     """Who asks for less time gets that, and who asks for more does not."""
     hop = next_hop(answer=hold)

@@ -8,7 +8,7 @@ use Rattle.fwd_session.specs.Live.{LiveSession}
 use Rattle.fwd_session.proofs.Lists.{all_append}
 use Rattle.fwd_model.specs.Layers.{Worker}
 use Rattle.fwd_core.specs.Lanes.{chunks_at, chunks_of}
-use Rattle.fwd_output.specs.HandedBack.{times}
+use Rattle.fwd_run.specs.Pages.{times}
 use Rattle.fwd_output.proofs.ChunkLemmas.{all_front, all_back, times-append}
 
 pub times-set : (n place : ℕ) (ws : List (Worker LiveSession)) (x y : Worker LiveSession)

@@ -17,7 +17,7 @@ use Rattle.fwd_model.specs.Outputs.{Return, return_of, live_gets_back, returned,
 use Rattle.fwd_session.specs.Live.{LiveSession}
 use Rattle.fwd_session.proofs.Lists.{all_same}
 use Rattle.fwd_core.specs.Lanes.{no_work, chunks_in, chunks_at, chunks_of, AreHeld, IsSameWork}
-use Rattle.fwd_output.specs.HandedBack.{times, AreHere}
+use Rattle.fwd_run.specs.Pages.{times, AreCarried}
 use Rattle.fwd_core.proofs.ChunkLemmas.{all-at, all-set, times-at, times-set}
 use Rattle.fwd_output.proofs.ChunkLemmas.{all_both, all_map, times-each, times-first, times-more, times-none, times-others}
 
@@ -30,11 +30,11 @@ idle-none : (n : ℕ) → chunks_of (replicate n no_work) ≡ []
 idle-none zero = refl
 idle-none (suc n) = idle-none n
 
-nothing-here : (b : LiveBuffer) → AreHere b []
+nothing-here : (b : LiveBuffer) → AreCarried b []
 nothing-here b = record { carried = tt; apart = λ n. omega arith }
 
 pub held-idle : (b : LiveBuffer) (n : ℕ) → AreHeld b (replicate n no_work)
-held-idle b n = subst (AreHere b) (sym (idle-none n)) (nothing-here b)
+held-idle b n = subst (AreCarried b) (sym (idle-none n)) (nothing-here b)
 
 -- ---- another buffer
 
@@ -183,7 +183,7 @@ returned-all P (Some c) loaded all = (all.0, all_map (λ r. P r.number) (return_
 -- a worker's chunks are here
 pub held-here : (b : LiveBuffer) (ws : List (Worker LiveSession)) (place : ℕ)
     (x : Worker LiveSession) → AreHeld b ws → slice_get ws place ≡ Some x
-    → AreHere b (chunks_at x)
+    → AreCarried b (chunks_at x)
 held-here b ws place x own here = record {
   carried = all-at (IsCarried b) place ws x here own.carried;
   apart = λ n. omega (arith, own.apart n, times-at n place ws x here);

@@ -19,7 +19,7 @@ use Rattle.fwd_model.specs.declared.event.EndKind.{EndKind}
 use Rattle.fwd_model.specs.Step.{choose, take, settle, end, with_session, is_full, is_idle, has_acked, unacknowledged_of, gives_back, lost_server}
 use Rattle.fwd_model.specs.Live.{LiveLane, lives, with_live_output, lane_gives, lane_takes, lane_settles, lane_ends}
 use Rattle.fwd_core.specs.Lanes.{acked_in, chunks_at, chunks_in, evidence_in, worker_settled}
-use Rattle.fwd_output.specs.HandedBack.{times}
+use Rattle.fwd_run.specs.Pages.{times}
 use Rattle.fwd_output.proofs.ChunkLemmas.{all_front, all_back, times-append}
 use Rattle.fwd_core.proofs.HeldLemmas.{Leaves}
 

@@ -16,7 +16,7 @@ use Rattle.fwd_model.specs.declared.config.OutputConfig.{OutputConfig}
 use Rattle.fwd_model.specs.Layers.{Worker}
 use Rattle.fwd_model.specs.Setups.{session_setup}
 use Rattle.fwd_core.specs.Lanes.{IsRoomy, IsSameWork, chunks_at}
-use Rattle.fwd_output.specs.HandedBack.{times}
+use Rattle.fwd_run.specs.Pages.{times}
 use Rattle.fwd_output.proofs.ChunkLemmas.{all_front, all_back, times-append}
 
 abbrev chunk_in : LiveLoaded → CarriedChunk

@@ -33,7 +33,7 @@ use Rattle.fwd_session.specs.History.{first_in}
 use Rattle.fwd_session.specs.Live.{LiveSession, live_acked, live_chunks, live_room, session_unloads}
 use Rattle.fwd_model.specs.Setups.{setting_of, servers_of}
 use Rattle.fwd_model.specs.Live.{LiveLane}
-use Rattle.fwd_output.specs.HandedBack.{AreHere, times}
+use Rattle.fwd_run.specs.Pages.{AreCarried, times}
 
 -- a worker without a chunk or a session
 abbrev pub no_work : Worker LiveSession
@@ -100,4 +100,4 @@ worker_settled x = record { taken = x.taken; session = option_map session_unload
 
 -- so it is with all chunks that these workers have
 abbrev pub AreHeld : LiveBuffer → List (Worker LiveSession) → Type 0
-AreHeld b workers = AreHere b (chunks_of workers)
+AreHeld b workers = AreCarried b (chunks_of workers)

@@ -339,6 +339,7 @@ impl Lane {
             return Answer::Refused(Refusal::NotNow);
         }
         let Leaving {
+            kind: _,
             taken,
             loaded,
             server,

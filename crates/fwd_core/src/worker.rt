@@ -325,6 +325,7 @@ impl Worker {
         let taken = self.taken.take();
         let Some(session) = self.session.take() else {
             return Leaving {
+                kind,
                 taken,
                 loaded: Vec::new(alloc),
                 server: None,

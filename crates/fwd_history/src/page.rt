@@ -240,6 +240,16 @@ impl<E, L: Law<E>, J: Run> Reached<E, L, J> {
         let _seen = &self.seen; // for the proof
     }
 
+    /// The same history.
+    pub fn again(&self) -> Reached<E, L, J>
+        ensures { result ≡ self.now }
+    {
+        Reached {
+            seen: self.seen.again(),
+            of: PhantomData,
+        }
+    }
+
     /// Two histories that a run has reached are beginnings of one: there is only one history.
     pub fn with(&self, other: &Reached<E, L, J>) -> Reached<E, L, J>
         ensures { Comes self.now result × Comes other.now result }

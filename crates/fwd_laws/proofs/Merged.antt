@@ -10,7 +10,7 @@ use Rattle.fwd_model.specs.Names.{Commute, are_unrelated, is_accept}
 use Rattle.fwd_model.proofs.Reached.{IsSane}
 use Rattle.fwd_model.proofs.Orders.Commuting.{unrelated_commute}
 use Rattle.fwd_laws.specs.Merging.{Merges, are_free, all_free}
-use Rattle.fwd_laws.proofs.Carried.{next-sane}
+use Rattle.fwd_laws.proofs.Sane.{next-sane}
 
 is-not : (b : Bool) → not b ≡ true → b ≡ false
 is-not true e = absurd cc

@@ -17,7 +17,7 @@ use Rattle.fwd_model.proofs.Orders.Changes.{same_number}
 use Rattle.fwd_model.proofs.Orders.Besides.{no_test, same_self}
 use Rattle.fwd_model.proofs.Orders.Commuting.{unrelated_commute}
 use Rattle.fwd_laws.specs.Merging.{at_part, answers_at, AreOneAtEach}
-use Rattle.fwd_laws.proofs.Carried.{next-sane}
+use Rattle.fwd_laws.proofs.Sane.{next-sane}
 
 -- ---- what an event names
 

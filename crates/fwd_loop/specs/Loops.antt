@@ -1,11 +1,10 @@
 -- What its settings set a relay to.
 use Rattle.std.specs.Prelude.{◌≡◌, ℕ, ◌+◌, ◌-◌, ◌*◌, max, sum_by, List, map}
-use Rattle.std.specs.Arc.{arc_value}
 use Rattle.fwd_settings.specs.declared.settings.Settings.{Settings}
 use Rattle.fwd_settings.specs.declared.settings.OutputSettings.{OutputSettings}
-use Rattle.fwd_config.specs.Configs.{user_of}
+use Rattle.fwd_config.specs.Configs.{parts_known, parts_set, user_of}
 use Rattle.fwd_pools.specs.Pools.{OutputShown, shown_by}
-use Rattle.fwd_turns.specs.declared.acceptor.SourceSetup.{SourceSetup}
+use Rattle.fwd_model.specs.declared.config.Config.{Config}
 use Rattle.fwd_turns.specs.declared.acceptor.TheConstants.{MONITORS}
 
 -- a relay: what each of its outputs is, and the match pattern of each, by which a request finds its
@@ -21,14 +20,17 @@ relay_by s = record {
   routes = map (λ o. o.pattern) s.outputs;
 }
 
--- What a source that comes is given is what the settings say: the key and the users by which it has
--- to log in, the hostname that the relay answers by, and how long and how deep its values may be.
-pub record IsGivenBy (s : Settings) (setup : SourceSetup) : Type 0 where
-  pub hostname : (arc_value setup.security).hostname ≡ s.relay.hostname
-  pub shared_key : (arc_value setup.security).shared_key ≡ s.relay.shared_key
-  pub users : (arc_value setup.security).users ≡ map user_of s.relay.users
-  pub message_limit : setup.limits.bytes ≡ s.relay.message_limit
-  pub depth : setup.limits.depth ≡ s.relay.depth
+-- What the relay is set to is what the settings say, but for the bytes that its chunks have: the key
+-- and the users by which a source has to log in, the hostname that the relay answers by, how long and
+-- how deep a source's values may be, where requests go, and what each output is.
+pub record IsSetTo (s : Settings) (config : Config) : Type 0 where
+  pub hostname : config.security.hostname ≡ s.relay.hostname
+  pub shared_key : config.security.shared_key ≡ s.relay.shared_key
+  pub users : config.security.users ≡ map user_of s.relay.users
+  pub message_limit : config.limits.bytes ≡ s.relay.message_limit
+  pub depth : config.limits.depth ≡ s.relay.depth
+  pub routes : config.routes ≡ map (λ o. o.pattern) s.outputs
+  pub outputs : map parts_known config.outputs ≡ map parts_set s.outputs
 
 -- how many workers there are
 abbrev pub workers_in : List OutputSettings → ℕ

@@ -5,6 +5,7 @@
 //! meaning stands below these: where a request goes and who is told of receipts in `fwd_reader`.
 #![tactic(auto)]
 
+mod address;
 mod files;
 mod opening;
 mod outcome;
@@ -16,7 +17,7 @@ mod threads;
 pub use fwd_listeners::{ControlAnswer, Ending};
 pub use fwd_monitors::{JournalEvent, ListenerKind, MemoryFor, Observer, StartFault};
 pub use fwd_peers::{CloseReason, PeerAddress, SocketPath};
-pub use fwd_turns::{Turns, close_all};
+pub use fwd_turns::{FrontTurns, Turns, close_all};
 pub use opening::Opened;
 pub use outcome::Outcome;
 pub use platform::Platform;

@@ -1,14 +1,19 @@
 //! What a relay has before its first turn, and how it is opened: the turns of its readers, and its
 //! workers beside them.
 
+ghost use Rattle.std.specs.Prelude.{◌≡◌, Some};
+ghost use Rattle.fwd_run.specs.Runs.{routes_at};
+
 use fwd_history::Run;
 use fwd_links::SharedFlags;
 use fwd_match::Routes;
 use fwd_monitors::{PageQueue, SharedTally, StartFault};
-use fwd_output::ReachedHistory;
 use fwd_pools::{WorkerSurroundings, WorkerThread};
 use fwd_reader::{Output, ReaderInbox, ReaderInboxes};
-use fwd_turns::{EventQueue, FrontReader, ReaderParts, Surroundings, Turns, close_all};
+use fwd_run::ReachedHistory;
+use fwd_turns::{
+    EventQueue, FrontReader, FrontTurns, ReaderParts, SourceSetup, Surroundings, Turns, close_all,
+};
 use std::alloc::{AllocFailed, Global};
 use std::net::Net;
 use std::rt::Clock;
@@ -20,12 +25,13 @@ pub(crate) struct Shared<J: Run> {
     pub flags: SharedFlags,
     pub routes: Routes,
     pub outputs: Vec<Output<J>>,
-    pub inboxes: ReaderInboxes,
+    pub inboxes: ReaderInboxes<J>,
     pub journal_events: EventQueue,
     pub tally: SharedTally,
     pub pages: PageQueue,
     /// The history of the run as far as it is known before the first turn, for the proof.
     pub reached: ReachedHistory<J>,
+    ghost routed: { routes_at reached ≡ Some routes },
 }
 
 // A drop of its own is proved once, and not at each place where a relay goes.
@@ -44,20 +50,43 @@ impl<J: Run> Drop for Shared<J> {
     }
 }
 
+impl<J: Run> Shared<J> {
+    /// The outputs, which nobody shares any more, and the history of the run as far as it was known
+    /// before the first turn.
+    pub fn into_outputs(self) -> (Vec<Output<J>>, ReachedHistory<J>)
+        ensures { result.0.items ≡ self.outputs.items }
+    {
+        let Shared {
+            flags: _,
+            routes: _,
+            outputs,
+            inboxes: _,
+            journal_events: _,
+            tally: _,
+            pages: _,
+            reached,
+        } = self;
+        (outputs, reached)
+    }
+}
+
 /// What a relay has beside: what each reader has of its own, and the workers.
-pub(crate) struct Own {
+pub(crate) struct Own<J: Run> {
     /// The reader in front.
-    pub front: ReaderParts,
+    pub front: ReaderParts<J>,
+    /// What sources that come are given.
+    pub setup: SourceSetup<J>,
     /// The others, in the order of their numbers.
-    pub others: Vec<ReaderParts>,
-    pub workers: Vec<WorkerThread>,
+    pub others: Vec<ReaderParts<J>>,
+    pub workers: Vec<WorkerThread<J>>,
 }
 
 // A drop of its own is proved once, and not at each place where a relay goes.
-impl Drop for Own {
+impl<J: Run> Drop for Own<J> {
     fn drop(self) {
         let Own {
             front: _,
+            setup: _,
             others: _,
             workers: _,
         } = self;
@@ -67,7 +96,7 @@ impl Drop for Own {
 /// A worker of a relay, which works beside the relay's turns, in a thread of its own.
 #[derive(Drop)]
 pub struct WorkerTurns<'a, J: Run> {
-    thread: &'a mut WorkerThread,
+    thread: &'a mut WorkerThread<J>,
     around: WorkerSurroundings<'a, J>,
 }
 
@@ -83,7 +112,7 @@ impl<'a, J: Run> WorkerTurns<'a, J> {
 fn workers_of<'a, J: Run>(
     alloc: Global,
     shared: &'a Shared<J>,
-    threads: &'a mut [WorkerThread],
+    threads: &'a mut [WorkerThread<J>],
     start: Option<Instant>,
 ) -> Result<Vec<WorkerTurns<'a, J>>, StartFault> {
     let around = WorkerSurroundings {
@@ -102,9 +131,9 @@ fn workers_of<'a, J: Run>(
 /// A place of a reader: its number, its inbox, when the relay started, and what it does beside if
 /// it is in front.
 #[derive(Drop)]
-struct ReaderPlace<'a> {
+struct ReaderPlace<'a, J: Run> {
     number: usize,
-    inbox: &'a ReaderInbox,
+    inbox: &'a ReaderInbox<J>,
     start: Option<Instant>,
     front: Option<FrontReader<'a>>,
 }
@@ -114,8 +143,8 @@ fn turns_of<'a, J: Run, R: Wait + Clock>(
     rt: &'a R,
     alloc: Global,
     shared: &'a Shared<J>,
-    place: ReaderPlace<'a>,
-    parts: &'a mut ReaderParts,
+    place: ReaderPlace<'a, J>,
+    parts: &'a mut ReaderParts<J>,
 ) -> Result<Turns<'a, J, R>, StartFault> {
     let ReaderPlace {
         number,
@@ -142,16 +171,18 @@ fn front_of<'a, J: Run, R: Wait + Clock>(
     rt: &'a R,
     alloc: Global,
     shared: &'a Shared<J>,
-    parts: &'a mut ReaderParts,
+    own: (&'a mut ReaderParts<J>, &'a mut SourceSetup<J>),
     start: Option<Instant>,
-) -> Result<Turns<'a, J, R>, StartFault> {
+) -> Result<FrontTurns<'a, J, R>, StartFault> {
+    let (parts, setup) = own;
     let place = ReaderPlace {
         number: 0,
         inbox: &shared.inboxes.front,
         start,
         front: Some(FrontReader::new(alloc, &shared.outputs, &shared.pages)?),
     };
-    turns_of(rt, alloc, shared, place, parts)
+    let turns = turns_of(rt, alloc, shared, place, parts)?;
+    Ok(FrontTurns::new(turns, setup))
 }
 
 /// The turns of the readers of a relay that are not in front. The only error is out of memory.
@@ -159,7 +190,7 @@ fn others_of<'a, J: Run, R: Wait + Clock>(
     rt: &'a R,
     alloc: Global,
     shared: &'a Shared<J>,
-    others: &'a mut [ReaderParts],
+    others: &'a mut [ReaderParts<J>],
     start: Option<Instant>,
 ) -> Result<Vec<Turns<'a, J, R>>, StartFault> {
     let mut readers = Vec::new(alloc);
@@ -189,7 +220,7 @@ fn others_of<'a, J: Run, R: Wait + Clock>(
 /// A relay that is open: the turns of its readers, and its workers.
 pub struct Opened<'a, J: Run, R: Clock> {
     /// Those of the reader in front.
-    pub turns: Turns<'a, J, R>,
+    pub turns: FrontTurns<'a, J, R>,
     pub others: Vec<Turns<'a, J, R>>,
     pub workers: Vec<WorkerTurns<'a, J>>,
 }
@@ -199,17 +230,18 @@ pub(crate) fn open<'a, J: Run, R: Wait + Clock>(
     rt: &'a R,
     alloc: Global,
     shared: &'a Shared<J>,
-    own: &'a mut Own,
+    own: &'a mut Own<J>,
 ) -> Result<Opened<'a, J, R>, StartFault> {
     let Own {
         front,
+        setup,
         others,
         workers: threads,
     } = own;
     let start = Instant::now(rt).ok();
     let workers = workers_of(alloc, shared, threads, start)?;
     let others = others_of(rt, alloc, shared, others, start)?;
-    match front_of(rt, alloc, shared, front, start) {
+    match front_of(rt, alloc, shared, (front, setup), start) {
         Ok(turns) => Ok(Opened {
             turns,
             others,

@@ -1,38 +1,55 @@
 //! The relay over sockets.
 
-ghost use Rattle.std.specs.Prelude.{◌≡◌, ◌<◌, ◌≤◌, length, map, true, All, IfOk};
+ghost use Rattle.std.specs.Prelude.{
+  ◌≡◌,
+  ◌≤◌,
+  ◌+◌,
+  ◌-◌,
+  ◌*◌,
+  Some,
+  None,
+  length,
+  map,
+  true,
+  All,
+  IfOk,
+};
+ghost use Rattle.fwd_msgpack.specs.declared.limits.Limits.{Limits};
+ghost use Rattle.fwd_handshake.specs.declared.credentials.Security.{Security};
 ghost use Rattle.fwd_config.specs.Configs.{parts_known};
+ghost use Rattle.fwd_run.specs.Pages.{page_count};
+ghost use Rattle.fwd_run.specs.Runs.{id_key, last_id, limits_at, routes_at, security_at};
 ghost use Rattle.fwd_settings.specs.Ranges.{in_range};
 ghost use Rattle.fwd_loop.specs.Loops.{relay_by};
 ghost use Rattle.fwd_pools.specs.Pools.{all_made_of, shown};
-ghost use Rattle.fwd_reader.specs.Ends.{AddUp};
+ghost use Rattle.fwd_reader.specs.Ends.{AddUp, AreReportsAfter};
 
-use crate::files::{most_files, sources_within};
+use crate::address::{Address, address_of, control_path_of};
 use crate::opening::{Opened, Own, Shared, open};
 use crate::outcome::{Ended, Outcome};
 use crate::platform::Platform;
 use crate::set_parts::{SetParts, parts_of, run_id_of};
 use crate::threads::{Beside, Started};
 use fwd_base::Text;
-use fwd_chunks::Report;
 use fwd_history::Run;
 use fwd_links::{Mailbox, SharedFlags};
 use fwd_listeners::{Ending, make_room};
 use fwd_match::Routes;
+use fwd_model::Config;
 use fwd_monitors::{Observer, PageQueue, SharedTally, StartFault};
-use fwd_output::{OpenedOutputs, OutputPages};
-use fwd_peers::{PeerAddress, SocketPath};
+use fwd_peers::SocketPath;
 use fwd_pools::{RandomStreams, RunOrigin, WorkerPools, pools_of};
 use fwd_reader::{FlushTimer, Output, ReaderInbox, ReaderInboxes, tally_of};
-use fwd_settings::{ListenAddress, Settings};
+use fwd_run::{IdPage, OpenedRun, ReachedHistory, RunPage, RunPages, SourceIds, open_run, skip};
+use fwd_settings::Settings;
 use fwd_turns::{
-    EventLoop, EventQueue, ListenConfig, ReaderLimits, ReaderParts, SourceSetup, Turns, close_all,
+    EventLoop, EventQueue, FrontTurns, ReaderLimits, ReaderParts, SourceSetup, close_all,
 };
 use std::alloc::Global;
 use std::marker::Model;
 use std::net::Net;
 use std::rt::{Clock, Files};
-use std::sync::Wait;
+use std::sync::{Arc, Wait};
 use std::thread;
 
 /// So many bytes are asked for and given back at the start. The C library gives a larger piece than
@@ -46,7 +63,7 @@ const LARGEST_KEPT: usize = 4 << 20;
 pub struct Loop<J: Run> {
     alloc: Global,
     shared: Shared<J>,
-    own: Own,
+    own: Own<J>,
 }
 
 // A drop of its own is proved once, and not at each place where a relay goes.
@@ -73,94 +90,46 @@ impl<J: Run> Model for Loop<J> {
     } };
 }
 
-/// Where the relay listens, how many sources it takes, and how many readers.
-#[derive(Clone, Copy)]
-struct Address {
-    listen: ListenConfig,
-    readers: usize,
-    each: ReaderLimits,
-}
-
-/// Where a relay of these settings listens, how many sources it takes: as many as are set, or as
-/// many as the process may have files open for; and how many readers it has.
-#[tactic(auto, using(crate::proofs::Outputs::outputs_few))]
-fn address_of<R: Files + AllocGlobal>(rt: &R, settings: &Settings) -> Address
-    requires { in_range settings.now ≡ true }
-{
-    let relay = &settings.relay;
-    let asked = u64::from(relay.connections);
-    let readers = u64::from(relay.readers);
-    let files = most_files(rt);
-    let outputs = settings.outputs.as_slice();
-    let most = match files {
-        Some(files) => sources_within(files, relay.readers, outputs),
-        None => asked.saturating_mul(2),
-    };
-    Address {
-        listen: ListenConfig {
-            listen: listen_of(&relay.listen),
-            monitor: relay.monitor,
-            has_metrics: relay.metrics,
-            connections: asked.min(most),
-            has_other_outputs: outputs.len() > 1,
-            few_files: if most < asked { files } else { None },
-        },
-        readers: readers as usize,
-        each: ReaderLimits {
-            idle_limit: relay.idle_limit,
-            kept: most
-                .saturating_sub(asked)
-                .min(asked)
-                .checked_div(readers)
-                .unwrap_or(0),
-        },
-    }
-}
-
-/// Where sources connect, by the settings.
-fn listen_of(listen: &ListenAddress) -> PeerAddress {
-    match listen {
-        ListenAddress::Tcp(address) => PeerAddress::Tcp(*address),
-        ListenAddress::Unix(path) => PeerAddress::Unix(SocketPath::of(path.as_str())),
-    }
-}
-
-/// The path of the control socket, if the settings name one.
-fn control_path_of(settings: &Settings) -> Option<SocketPath> {
-    let path = settings.relay.control.as_ref()?;
-    Some(SocketPath::of(path.as_str()))
-}
-
-/// The loop of the reader in front, with the listeners, what it is told by, and the flags of its
-/// relay.
+/// Where requests go, and the history of a run that begins so.
 #[derive(Drop)]
-struct FrontLoop {
+struct Routed<J: Run> {
+    routes: Routes,
+    reached: ReachedHistory<J>,
+    ghost routed: { routes_at reached ≡ Some routes },
+}
+
+/// The loop of the reader in front, with the listeners, what it is told by, what sources that come
+/// are given, and the flags of its relay.
+#[derive(Drop)]
+struct FrontLoop<J: Run> {
     flags: SharedFlags,
-    event_loop: EventLoop,
+    event_loop: EventLoop<J>,
     mailbox: Mailbox,
+    setup: SourceSetup<J>,
 }
 
 /// The loop of the reader in front before its first turn.
-fn front_loop<R: Net + Files>(
+fn front_loop<J: Run, R: Net + Files>(
     rt: &R,
     alloc: Global,
     address: Address,
-    setup: SourceSetup,
-) -> Result<FrontLoop, StartFault> {
+    setup: SourceSetup<J>,
+) -> Result<FrontLoop<J>, StartFault> {
     let flags = SharedFlags::new(alloc)?;
     let (mut event_loop, mailbox) = EventLoop::new(rt, alloc, &flags, address.each)?;
-    event_loop.listen(rt, address.listen, setup)?;
+    event_loop.listen(rt, address.listen)?;
     Ok(FrontLoop {
         flags,
         event_loop,
         mailbox,
+        setup,
     })
 }
 
 /// The readers that are not in front: what each is told by, and what it has of its own.
-struct OtherReaders {
-    inboxes: Vec<ReaderInbox>,
-    others: Vec<ReaderParts>,
+struct OtherReaders<J: Run> {
+    inboxes: Vec<ReaderInbox<J>>,
+    others: Vec<ReaderParts<J>>,
 }
 
 /// A reader of these outputs that is not in front: what it has of its own, and what it is told by.
@@ -169,7 +138,7 @@ fn other_reader<J: Run, R: Net>(
     flags: &SharedFlags,
     pools: &WorkerPools<J>,
     limits: ReaderLimits,
-) -> Result<(ReaderParts, ReaderInbox), StartFault> {
+) -> Result<(ReaderParts<J>, ReaderInbox<J>), StartFault> {
     let timers = pools.timers()?;
     let (event_loop, mailbox) = EventLoop::new(rt, pools.alloc, flags, limits)?;
     let inbox = ReaderInbox::new(pools.alloc, mailbox);
@@ -182,7 +151,7 @@ fn other_readers<J: Run, R: Net>(
     flags: &SharedFlags,
     pools: &WorkerPools<J>,
     address: Address,
-) -> Result<OtherReaders, StartFault> {
+) -> Result<OtherReaders<J>, StartFault> {
     let alloc = pools.alloc;
     let mut inboxes = Vec::new(alloc);
     let mut others = Vec::new(alloc);
@@ -196,10 +165,10 @@ fn other_readers<J: Run, R: Net>(
 
 /// What a relay of these outputs has beside: what it counts, the timers of the reader in front, and
 /// the other readers.
-struct BesideOutputs {
+struct BesideOutputs<J: Run> {
     tally: SharedTally,
     timers: Vec<FlushTimer>,
-    readers: OtherReaders,
+    readers: OtherReaders<J>,
 }
 
 /// What a relay of these outputs has beside.
@@ -208,7 +177,7 @@ fn beside_outputs<J: Run, R: Net>(
     flags: &SharedFlags,
     pools: &WorkerPools<J>,
     address: Address,
-) -> Result<BesideOutputs, StartFault> {
+) -> Result<BesideOutputs<J>, StartFault> {
     let tally = tally_of(pools.alloc, &pools.outputs, address.listen.has_metrics)?;
     let timers = pools.timers()?;
     let readers = other_readers(rt, flags, pools, address)?;
@@ -219,21 +188,18 @@ fn beside_outputs<J: Run, R: Net>(
     })
 }
 
-/// The relay of these outputs and their workers, with all its readers.
+/// The relay of these outputs and their workers, with all its readers, and the history of its run.
 fn loop_of<J: Run, R: Net>(
     rt: &R,
-    front: FrontLoop,
+    front: FrontLoop<J>,
     pools: WorkerPools<J>,
     address: Address,
-    routes: Routes,
+    routed: Routed<J>,
 ) -> Result<Loop<J>, StartFault>
-    requires { 0 < pools.pages.1 }
     ensures { IfOk result (λ relay. relay
-        ≡ record { outputs = map shown pools.outputs.items; routes = routes }) }
+        ≡ record { outputs = map shown pools.outputs.items; routes = routed.routes }) }
 {
     let alloc = pools.alloc;
-    let mut pools = pools;
-    let reached = pools.reached();
     let BesideOutputs {
         tally,
         timers,
@@ -243,12 +209,14 @@ fn loop_of<J: Run, R: Net>(
         flags,
         event_loop,
         mailbox,
+        setup,
     } = front;
     let WorkerPools {
         outputs,
         workers,
         ..
     } = pools;
+    let Routed { routes, reached } = routed;
     let shared = Shared {
         flags,
         routes,
@@ -264,39 +232,81 @@ fn loop_of<J: Run, R: Net>(
     };
     let own = Own {
         front: ReaderParts { event_loop, timers },
+        setup,
         others,
         workers,
     };
     Ok(Loop { alloc, shared, own })
 }
 
-/// The relay of these parts, with the pages of a history in which nothing happened yet.
+/// The ids of a run's connections, whose page is this one. Of the other pages those come next that
+/// outputs could have which there are not.
+fn source_ids<J: Run>(ids: RunPage<J>, pages: RunPages<J>, outputs: usize) -> SourceIds<J>
+    requires few { outputs ≤ 64 }
+    requires page { ids.0 ≡ id_key }
+    requires fresh { last_id ids.1 ≡ None }
+    requires security { (security : Security) × (security_at ids.1 ≡ Some security) }
+    requires limits { (limits : Limits) × (limits_at ids.1 ≡ Some limits) }
+    requires pages { pages ≡ (1 + 32 * outputs, page_count - 1 - 32 * outputs) }
+    ensures { result ≡ record {
+      next = Some 1;
+      security = security_at ids.1;
+      limits = limits_at ids.1;
+    } }
+{
+    let mut pages = pages;
+    skip(&mut pages, 32 * (64 - outputs));
+    SourceIds::new(IdPage::new(ids), pages)
+}
+
+/// The relay of these parts, with the pages of a run in which nothing happened yet.
 fn relay_of<J: Run, R: Net + Files + AllocGlobal>(
     rt: &R,
-    pages: OutputPages<J>,
+    pages: RunPages<J>,
     address: Address,
-    run: RunOrigin<'_>,
+    random: &RandomStreams,
     parts: SetParts,
 ) -> Result<Loop<J>, StartFault>
-    requires each { length parts.hops.items ≡ length parts.outputs.items }
-    requires few { length parts.outputs.items ≤ 64 }
-    requires pages { (pages.0 ≡ 0) × (64 < pages.1) }
+    requires each { length parts.hops.items ≡ length parts.config.outputs }
+    requires few { length parts.config.outputs ≤ 64 }
+    requires workers { All (λ c. c.workers ≤ 30) parts.config.outputs }
+    requires pages { pages ≡ (0, page_count) }
     ensures { IfOk result (λ relay. relay ≡ record {
-      outputs = all_made_of (map parts_known parts.outputs.items) parts.hops.items;
-      routes = parts.routes;
+      outputs = all_made_of (map parts_known parts.config.outputs) parts.hops.items;
+      routes = parts.config.routes;
     }) }
 {
     let alloc = rt.alloc();
-    let SetParts {
-        source,
+    let SetParts { config, hops } = parts;
+    let mut pages = pages;
+    let mut ids = pages.take();
+    let reached = open_run(&mut ids, &config);
+    let Config {
+        run: id,
         routes,
+        security,
+        limits,
         outputs,
-        hops,
-    } = parts;
-    let front = front_loop(rt, alloc, address, source)?;
-    let none = WorkerPools::new(alloc, pages, address.readers);
-    let pools = pools_of(rt, none, run, outputs, hops)?;
-    loop_of(rt, front, pools, address, routes)
+    } = config;
+    let mut run = RunOrigin {
+        random,
+        id,
+        pages,
+        reached: reached.again(),
+    };
+    let count = outputs.len();
+    let none = WorkerPools::new(alloc, address.readers);
+    let pools = pools_of(rt, none, &mut run, outputs.into_vec(), hops)?;
+    let RunOrigin { pages, .. } = run;
+    let setup = SourceSetup {
+        security: Arc::new(alloc, security)?,
+        limits,
+        nonces: random.nonces(),
+        ids: source_ids(ids, pages, count),
+    };
+    let front = front_loop(rt, alloc, address, setup)?;
+    let routed = Routed { routes, reached };
+    loop_of(rt, front, pools, address, routed)
 }
 
 /// Asks for a large piece of memory, and gives it back.
@@ -315,12 +325,12 @@ impl<J: Run + Send + Sync> Loop<J> {
     /// `Memory`.
     pub fn new<R: Net + Files + AllocGlobal>(
         rt: &R,
-        opened: OpenedOutputs,
+        opened: OpenedRun,
         settings: Settings,
     ) -> Result<Loop<J>, StartFault>
         requires range { in_range settings ≡ true }
         requires book { opened.book ≡ J.book }
-        requires pages { 64 < opened.pages }
+        requires pages { opened.pages ≡ page_count }
         ensures { IfOk result (λ relay. relay ≡ relay_by settings) }
     {
         let control = control_path_of(&settings);
@@ -352,11 +362,11 @@ impl<J: Run + Send + Sync> Loop<J> {
     /// The relay of these settings, which cannot be asked to stop.
     fn without_control<R: Net + Files + AllocGlobal>(
         rt: &R,
-        pages: OutputPages<J>,
+        pages: RunPages<J>,
         settings: Settings,
     ) -> Result<Loop<J>, StartFault>
         requires range { in_range settings ≡ true }
-        requires pages { (pages.0 ≡ 0) × (64 < pages.1) }
+        requires pages { pages ≡ (0, page_count) }
         ensures { IfOk result (λ relay. relay ≡ relay_by settings) }
     {
         let alloc = rt.alloc();
@@ -364,12 +374,8 @@ impl<J: Run + Send + Sync> Loop<J> {
         let address = address_of(rt, &settings);
         let random = RandomStreams::new(rt, settings.relay.seed)?;
         let id = run_id_of(settings.relay.run_id, &random);
-        let parts = parts_of(alloc, settings, &random)?;
-        let run = RunOrigin {
-            random: &random,
-            id,
-        };
-        relay_of(rt, pages, address, run, parts)
+        let parts = parts_of(alloc, settings, id)?;
+        relay_of(rt, pages, address, &random, parts)
     }
 
     /// Opens the relay, so that its turns are made one by one, and its workers are run beside them
@@ -384,14 +390,16 @@ impl<J: Run + Send + Sync> Loop<J> {
 
     /// Runs the reader in front for so many turns in this thread, and each other reader and each
     /// worker for as many in a thread of its own, and answers what each output has to do with once
-    /// all have ended, in the settings' order. Whoever still waits for an acknowledgement by then
-    /// is told, if its request's entries are settled.
+    /// all have ended, in the settings' order, and the history of the run, behind which that is so.
+    /// Whoever still waits for an acknowledgement by then is told, if its request's entries are
+    /// settled.
     ///
     /// It fails with `Thread` where the thread of a reader or worker cannot be had, with `Poll`
     /// where a wait failed, and with `Memory`. All threads that were started have ended then, too.
-    pub fn run<R: Platform>(self, rt: &R, turns: u64) -> Result<Vec<Report>, StartFault>
-        ensures count { IfOk result (λ reports. length reports.items ≡ length self.outputs) }
-        ensures add_up { IfOk result (λ reports. AddUp reports.items) }
+    pub fn run<R: Platform>(self, rt: &R, turns: u64) -> Result<Outcome<J>, StartFault>
+        ensures count { IfOk result (λ o. length o.reports.items ≡ length self.outputs) }
+        ensures add_up { IfOk result (λ o. AddUp o.reports.items) }
+        ensures reached { IfOk result (λ o. AreReportsAfter o.reached o.reports.items) }
     {
         self.run_watched(rt, &mut (), turns)
     }
@@ -402,32 +410,31 @@ impl<J: Run + Send + Sync> Loop<J> {
         rt: &R,
         observer: &mut W,
         count: u64,
-    ) -> Result<Vec<Report>, StartFault>
-        ensures count { IfOk result (λ reports. length reports.items ≡ length self.outputs) }
-        ensures add_up { IfOk result (λ reports. AddUp reports.items) }
+    ) -> Result<Outcome<J>, StartFault>
+        ensures count { IfOk result (λ o. length o.reports.items ≡ length self.outputs) }
+        ensures add_up { IfOk result (λ o. AddUp o.reports.items) }
+        ensures reached { IfOk result (λ o. AreReportsAfter o.reached o.reports.items) }
     {
         let Ended {
             outcome,
             control: _,
             path: _,
         } = self.run_apart(rt, observer, count);
-        match outcome {
-            Ok(outcome) => Ok(outcome.reports),
-            Err(fault) => Err(fault),
-        }
+        outcome
     }
 
-    /// The same, and it answers why the run ended, too. It ends sooner where it is asked to stop:
-    /// once all is delivered and told, or the time is over. Whoever asked is told what came of it,
-    /// and the files of its sockets are removed.
+    /// The same, but that it ends sooner where it is asked to stop: once all is delivered and told,
+    /// or the time is over. Whoever asked is told what came of it, and the files of its sockets are
+    /// removed.
     pub fn run_to_end<R: Platform + Files, W: Observer>(
         self,
         rt: &R,
         observer: &mut W,
         count: u64,
-    ) -> Result<Outcome, StartFault>
+    ) -> Result<Outcome<J>, StartFault>
         ensures count { IfOk result (λ o. length o.reports.items ≡ length self.outputs) }
         ensures add_up { IfOk result (λ o. AddUp o.reports.items) }
+        ensures reached { IfOk result (λ o. AreReportsAfter o.reached o.reports.items) }
         ensures delivered { IfOk result (λ o. o.ending ≡ Ending.Delivered
             → All (λ report. report.counts.held ≡ 0) o.reports.items) }
     {
@@ -451,9 +458,10 @@ impl<J: Run + Send + Sync> Loop<J> {
 
     /// The same, and it hands on who asked it to stop, and is not told yet.
     #[tactic(auto, using(crate::proofs::Outputs::shown_count))]
-    fn run_apart<R: Platform, W: Observer>(self, rt: &R, observer: &mut W, count: u64) -> Ended
+    fn run_apart<R: Platform, W: Observer>(self, rt: &R, observer: &mut W, count: u64) -> Ended<J>
         ensures count { IfOk result.outcome (λ o. length o.reports.items ≡ length self.outputs) }
         ensures add_up { IfOk result.outcome (λ o. AddUp o.reports.items) }
+        ensures reached { IfOk result.outcome (λ o. AreReportsAfter o.reached o.reports.items) }
         ensures delivered { IfOk result.outcome (λ o. o.ending ≡ Ending.Delivered
             → All (λ report. report.counts.held ≡ 0) o.reports.items) }
     {
@@ -462,8 +470,10 @@ impl<J: Run + Send + Sync> Loop<J> {
             shared,
             mut own,
         } = self;
-        let outcome = match run_parts(rt, &shared, &mut own, observer, count) {
-            Ok(was_asked) => outcome_of(rt, alloc, &shared.outputs, was_asked),
+        let ran = run_parts(rt, &shared, &mut own, observer, count);
+        let (outputs, reached) = shared.into_outputs();
+        let outcome = match ran {
+            Ok(was_asked) => outcome_of(alloc, outputs, &reached, was_asked),
             Err(fault) => Err(fault),
         };
         let control = own.front.event_loop.take_control();
@@ -476,20 +486,21 @@ impl<J: Run + Send + Sync> Loop<J> {
     }
 }
 
-/// What a run over these outputs came to, which was asked to stop or not. The only error is out of
-/// memory.
-fn outcome_of<J: Run, R: Wait>(
-    rt: &R,
+/// What a run over these outputs came to, which was asked to stop or not, and which had reached a
+/// history before. The only error is out of memory.
+fn outcome_of<J: Run>(
     alloc: Global,
-    outputs: &[Output<J>],
+    outputs: Vec<Output<J>>,
+    reached: &ReachedHistory<J>,
     was_asked: bool,
-) -> Result<Outcome, StartFault>
-    ensures count { IfOk result (λ o. length o.reports.items ≡ length outputs.now) }
+) -> Result<Outcome<J>, StartFault>
+    ensures count { IfOk result (λ o. length o.reports.items ≡ length outputs.items) }
     ensures add_up { IfOk result (λ o. AddUp o.reports.items) }
+    ensures reached { IfOk result (λ o. AreReportsAfter o.reached o.reports.items) }
     ensures delivered { IfOk result (λ o. o.ending ≡ Ending.Delivered
         → All (λ report. report.counts.held ≡ 0) o.reports.items) }
 {
-    Ok(Outcome::of(rt, alloc, outputs, was_asked)?)
+    Ok(Outcome::of(alloc, outputs, reached, was_asked)?)
 }
 
 /// Runs a relay of these parts for so many turns, or until it was asked to stop and is to end:
@@ -497,7 +508,7 @@ fn outcome_of<J: Run, R: Wait>(
 fn run_parts<J: Run + Send + Sync, R: Platform, W: Observer>(
     rt: &R,
     shared: &Shared<J>,
-    own: &mut Own,
+    own: &mut Own<J>,
     observer: &mut W,
     count: u64,
 ) -> Result<bool, StartFault> {
@@ -522,7 +533,7 @@ fn run_parts<J: Run + Send + Sync, R: Platform, W: Observer>(
 /// and has monitors' pages made in another one, where there can be one.
 fn serve<J: Run + Send + Sync, R: Platform, W: Observer>(
     rt: &R,
-    turns: &mut Turns<'_, J, R>,
+    turns: &mut FrontTurns<'_, J, R>,
     beside: Beside<'_, '_, J, R>,
     observer: &mut W,
     count: u64,
@@ -550,7 +561,7 @@ fn serve<J: Run + Send + Sync, R: Platform, W: Observer>(
 /// failed, or the relay has nothing left to do.
 fn serve_front<J: Run, R: Platform, W: Observer>(
     rt: &R,
-    turns: &mut Turns<'_, J, R>,
+    turns: &mut FrontTurns<'_, J, R>,
     begun: Result<(), StartFault>,
     observer: &mut W,
     count: u64,

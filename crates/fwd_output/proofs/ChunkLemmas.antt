@@ -4,7 +4,7 @@ use Rattle.std.specs.Prelude.{map, ◌==◌}
 use Rattle.std.specs.List.{AllByRecursion}
 use Rattle.std.proofs.lemmas.Bool.Decides.{nat_tests}
 use Rattle.fwd_chunks.specs.History.{CarriedChunk}
-use Rattle.fwd_output.specs.HandedBack.{times}
+use Rattle.fwd_run.specs.Pages.{times}
 
 -- ---- what holds of each
 

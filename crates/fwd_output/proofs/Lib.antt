@@ -8,4 +8,5 @@ pub mod HandingOut
 pub mod Counting
 pub mod Returning
 pub mod Settling
-pub mod RunLemmas
+pub mod Paging
+pub mod Knowing

@@ -1,38 +1,11 @@
--- The chunks that workers have from an output's buffer, and what is handed back to it; and the
--- `chunk` of a request.
-use Rattle.std.specs.Prelude.{
-  ◌≡◌,
-  ◌≤◌,
-  ℕ,
-  suc,
-  Bool,
-  true,
-  false,
-  List,
-  [],
-  ◌∷◌,
-  ◌==◌,
-  Option,
-  option_and_then,
-  if◌then◌else◌,
-}
-use Rattle.std.specs.List.{AllByRecursion}
+-- What is handed back to an output's buffer of the chunks that workers have; and the `chunk` of a
+-- request.
+use Rattle.std.specs.Prelude.{◌≡◌, ℕ, Bool, true, false, List, [], ◌∷◌, Option, option_and_then}
 use Rattle.fwd_modes.specs.declared.origin.Origin.{Origin}
 use Rattle.fwd_book.specs.History.{Entered, request_at}
 use Rattle.fwd_chunks.specs.History.{CarriedChunk}
 use Rattle.fwd_chunks.specs.Live.{LiveBuffer, IsCarried, live_frees}
 use Rattle.fwd_model.specs.Outputs.{moment_if}
-
--- how many of the chunks have the number
-abbrev pub times : ℕ → List CarriedChunk → ℕ
-times number [] = 0
-times number (c ∷ chunks) =
-    if c.number == number then suc (times number chunks) else times number chunks
-
--- workers have each of the chunks from the buffer, and no number stands among them twice
-pub record AreHere (b : LiveBuffer) (chunks : List CarriedChunk) : Type 0 where
-  pub carried : AllByRecursion (IsCarried b) chunks
-  pub apart : (number : ℕ) → times number chunks ≤ 1
 
 -- a chunk that is handed back, and whether that counts as a loss
 pub record Handed : Type 0 where

@@ -23,9 +23,9 @@ ghost use Rattle.fwd_output.specs.Turns.{
 };
 
 use crate::output::OutputState;
-use crate::run_event::ReachedHistory;
 use crate::ticket::Ticket;
 use fwd_book::Receipt;
+use fwd_run::ReachedHistory;
 use std::alloc::{AllocError, Global};
 
 /// What is collected: receipts, the tickets that come back, and the history of the run, after which

@@ -12,6 +12,8 @@ use fwd_session::Session;
 
 /// What a worker leaves at its end, which goes back to its output.
 pub struct Leaving {
+    /// How its session ends.
+    pub kind: EndKind,
     /// The chunk that it took and did not load: it goes back without a loss.
     pub taken: Option<Carried>,
     /// The chunks that it loaded and that are not acknowledged, in the order of their loads: each
@@ -26,6 +28,7 @@ pub struct Leaving {
 /// be lost, the session is down, its handshake is not done, or it has a chunk. It takes no memory.
 pub fn leave(session: Session, taken: Option<Carried>, kind: EndKind) -> Leaving
     requires settled { session.accepted ≡ [] }
+    ensures kind { result.kind ≡ kind }
     ensures taken { result.taken ≡ taken }
     ensures loaded { result.loaded.items ≡ live_chunks session.carried }
     ensures server { result.server ≡ lost_server lives kind (Some session) }
@@ -42,6 +45,7 @@ pub fn leave(session: Session, taken: Option<Carried>, kind: EndKind) -> Leaving
         None
     };
     Leaving {
+        kind,
         taken,
         loaded: session.end(),
         server,

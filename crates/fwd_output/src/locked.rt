@@ -7,6 +7,8 @@ ghost use Rattle.std.specs.Prelude.{
   ◌++◌,
   List,
   Err,
+  true,
+  false,
   None,
   [],
   ◌∷◌,
@@ -50,9 +52,18 @@ ghost use Rattle.fwd_model.specs.Outputs.{
   output_settles,
   returned,
 };
-ghost use Rattle.fwd_output.specs.HandedBack.{AreHere, IsHandedBack, kept_back, lost_back};
 ghost use Rattle.fwd_output.specs.OutputEvents.{IsLiveOutput};
-ghost use Rattle.fwd_output.specs.RunEvents.{AreGivenAfter};
+ghost use Rattle.fwd_output.specs.Paged.{
+  AreGivenAfter,
+  Ends,
+  Gives,
+  HasAcked,
+  IsAsked,
+  MayEnd,
+  MayTake,
+  Settles,
+  Takes,
+};
 ghost use Rattle.fwd_output.specs.Tickets.{
   Ticket as AbstractTicket,
   AreGiven,
@@ -80,16 +91,19 @@ mod looking;
 
 use crate::chunk_starts::ChunkStarts;
 use crate::collecting::{Collected, receipts_of, shows};
+use crate::leaving::Leaving;
 use crate::lost_at::LostAt;
 use crate::paged_output::PagedOutput;
+use crate::routed_request::RoutedRequest;
 use crate::server_order::ServerOrder;
 use crate::server_view::ServerView;
 use crate::tally::Tally;
 use crate::ticket::Ticket;
 pub use closing::Closing;
 use fwd_book::AdmitRefusal;
-use fwd_chunks::{Carried, Counts, FlushKind, Report, Snapshot, tags_add_up};
-use fwd_modes::{Batch, Origin};
+use fwd_chunks::{Carried, Counts, FlushKind, Report, Snapshot, Wanted, tags_add_up};
+use fwd_modes::Batch;
+use fwd_run::{SourcePage, WorkerPage};
 use fwd_session::Acked;
 use std::alloc::{AllocError, Global};
 use std::marker::Model;
@@ -210,6 +224,13 @@ impl<A: Tally, S: Tally> Locked<A, S> {
         self.state.now().report(alloc)
     }
 
+    /// The output's number.
+    pub fn output(&self) -> u16
+        ensures { result ≡ self.now.output.book.setting.output }
+    {
+        self.state.now().output()
+    }
+
     /// When the oldest chunk was begun that is not settled, in milliseconds, if there is one.
     pub fn oldest(&self) -> Option<u64> {
         self.begun.oldest()
@@ -223,27 +244,38 @@ impl<A: Tally, S: Tally> Locked<A, S> {
         &mut self,
         alloc: Global,
         seat: &mut A::Seat,
-        origin: Origin,
-        batch: Batch,
+        source: &mut SourcePage<A::Run>,
+        request: RoutedRequest,
         now: u64,
     ) -> Result<Ticket, (AdmitRefusal, Batch)>
-        ensures refused { IfSome (refusal_at self.old.output origin batch now) (λ why.
-            result ≡ Err (why, batch)) }
-        ensures ticket { IfOk result (λ t. t ≡ ticket_for self.old.output origin batch now) }
-        ensures ok { OnOk result (self.new ≡ locked_admits self.old origin batch now) }
-        ensures memory { refusal_at self.old.output origin batch now ≡ None
+        requires { IsAsked source.old self.old.output.book.setting.output request.origin
+            request.batch }
+        ensures refused { IfSome (refusal_at self.old.output request.origin request.batch now)
+            (λ why. result ≡ Err (why, request.batch)) }
+        ensures ticket { IfOk result (λ t.
+            t ≡ ticket_for self.old.output request.origin request.batch now) }
+        ensures ok { OnOk result (self.new
+            ≡ locked_admits self.old request.origin request.batch now) }
+        ensures memory { refusal_at self.old.output request.origin request.batch now ≡ None
             → IfErr result (λ e. e.0 ≡ AdmitRefusal.Memory) }
-        ensures back { IfErr result (λ e. e.1 ≡ batch) }
+        ensures back { IfErr result (λ e. e.1 ≡ request.batch) }
         ensures err { OnErr result (self.new ≡ self.old) }
+        ensures gives { OnOk result (Gives source.old source.new) }
+        ensures stays { OnErr result (source.new ≡ source.old) }
         ensures counted { OnOk result (A.count seat.new
-            ≡ A.count seat.old + A.kept (length batch.entries)) }
+            ≡ A.count seat.old + A.kept (length request.batch.entries)) }
         ensures same { OnErr result (A.count seat.new ≡ A.count seat.old) }
         ensures parts { A.parts seat.new ≡ A.parts seat.old }
     {
+        let RoutedRequest {
+            output: _,
+            origin,
+            batch,
+        } = request;
         if self.state.now().holds(origin) {
             return Err((AdmitRefusal::NotNow, batch));
         }
-        let admitted = match self.state.admit(alloc, origin, &batch, now) {
+        let admitted = match self.state.admit(alloc, source, origin, &batch, now) {
             Ok(admitted) => admitted,
             Err(error) => return Err((AdmitRefusal::from(error), batch)),
         };
@@ -358,16 +390,19 @@ impl<A: Tally, S: Tally> Locked<A, S> {
         &mut self,
         alloc: Global,
         seat: &mut S::Seat,
-        worker: u16,
+        worker: &mut WorkerPage<A::Run>,
         now: u64,
     ) -> Result<Option<Carried>, AllocError>
+        requires { MayTake worker.old self.old.output.book.setting.output }
         ensures given { IfOk result (λ carried. carried ≡ option_map
             (live_carried_chunk self.old.output.buffer)
             (live_given (live_looks self.old.output.buffer now))) }
         ensures ok { OnOk result (self.new ≡ locked_with self.old (record (self.old.output) {
-          buffer = live_takes self.old.output.buffer worker wanted.Any now;
+          buffer = live_takes self.old.output.buffer worker.old.worker wanted.Any now;
         })) }
         ensures err { OnErr result (self.new ≡ self.old) }
+        ensures takes { IfOk result (λ carried. Takes worker.old carried worker.new) }
+        ensures stays { OnErr result (worker.new ≡ worker.old) }
 
         // Where none is free, no memory is taken.
         ensures none { live_given (live_looks self.old.output.buffer now) ≡ None
@@ -375,7 +410,7 @@ impl<A: Tally, S: Tally> Locked<A, S> {
         ensures same { seat.new ≡ seat.old }
     {
         let _ = seat;
-        self.state.take(alloc, worker, now)
+        self.state.take_wanted(alloc, worker, Wanted::Any, now)
     }
 
     /// A server could not be had for a chunk. If that was lost before, it counts as lost there too.
@@ -388,26 +423,20 @@ impl<A: Tally, S: Tally> Locked<A, S> {
     /// A server may be lost at a moment (milliseconds), with a chunk that was taken for it, and
     /// with those that it owed an acknowledgement, of which the first counts: the others were lost
     /// with that one, since a server takes them in their order.
-    fn note_lost(
-        &mut self,
-        server: Option<u16>,
-        taken: &Option<Carried>,
-        loaded: &[Carried],
-        now: u64,
-    )
+    fn note_lost(&mut self, leaving: &Leaving, now: u64)
         ensures { self.new ≡ self.old }
     {
-        let (Some(order), Some(server)) = (&mut self.order, server) else {
+        let (Some(order), Some(server)) = (&mut self.order, leaving.server) else {
             return;
         };
         order.lost(server, now);
         if order.is_single() {
             return;
         }
-        if let Some(chunk) = taken {
+        if let Some(chunk) = &leaving.taken {
             self.lost_at.miss(chunk.number(), server);
         }
-        if let Some(chunk) = loaded.first() {
+        if let Some(chunk) = leaving.loaded.first() {
             self.lost_at.lose(chunk.number(), server);
         }
     }
@@ -456,24 +485,28 @@ impl<A: Tally, S: Tally> Locked<A, S> {
     }
 
     /// A server acknowledged the chunk: its entries are settled, and answered is how many they are.
-    /// A chunk that no worker has from this output changes nothing, and counts 0; no more is
-    /// counted than the chunk's own entries.
-    pub fn settle(&mut self, seat: &mut S::Seat, acked: Arc<Acked>, carried: Carried) -> u64
-        requires { IsServerAck (arc_value acked) carried }
-        ensures here { IsCarried self.old.output.buffer carried → self.new
+    pub fn settle(
+        &mut self,
+        seat: &mut S::Seat,
+        worker: &mut WorkerPage<A::Run>,
+        acked: Arc<Acked>,
+        carried: Carried,
+    ) -> u64
+        requires backed { IsServerAck (arc_value acked) carried }
+        requires acked { HasAcked worker.old self.old.output.book.setting.output (arc_value acked)
+            carried }
+        ensures settled { self.new
             ≡ locked_settles self.old (output_settles self.old.output (arc_value acked)) result }
-        ensures count { IsCarried self.old.output.buffer carried
-            → result ≡ live_count_at carried.number self.old.output }
-        ensures elsewhere { ¬ (IsCarried self.old.output.buffer carried)
-            → (self.new ≡ self.old) × (result ≡ 0) }
+        ensures count { result ≡ live_count_at carried.number self.old.output }
         ensures most { result ≤ length carried.entries }
+        ensures settles { Settles worker.old worker.new }
         ensures counted { S.count seat.new ≡ S.count seat.old + S.kept result }
         ensures parts { S.parts seat.new ≡ S.parts seat.old }
     {
         self.state.is_sound(); // for the proof
         let number = carried.number();
         let server = acked.server();
-        let count = self.state.settle(acked, carried) as u64;
+        let count = self.state.settle(worker, acked, carried) as u64;
         self.state.is_sound(); // for the proof
         self.settled.add(seat, count);
         self.begun.settle(number, count);
@@ -481,32 +514,38 @@ impl<A: Tally, S: Tally> Locked<A, S> {
         count
     }
 
+    /// A server is lost at a moment (milliseconds) that could not be reached, and no chunk. Answers
+    /// whether the output has such a server.
+    pub fn lose(&mut self, alloc: Global, server: u16, now: u64) -> bool
+        ensures lost { result ≡ true → self.new
+            ≡ locked_with self.old (output_ends self.old.output [] (Some server) now) }
+        ensures other { result ≡ false → self.new ≡ self.old }
+    {
+        if let Some(order) = &mut self.order {
+            order.lost(server, now);
+        }
+        self.state.lose(alloc, server, now)
+    }
+
     /// A worker's end at a moment (milliseconds): the chunk that it took and did not load is given
     /// back without a loss, and those that it loaded with a loss each, in their order; and a server
-    /// may be lost. A chunk that no worker has from this output is only spent.
+    /// may be lost.
     pub fn end(
         &mut self,
         seat: &mut S::Seat,
-        taken: Option<Carried>,
-        loaded: Vec<Carried>,
-        server: Option<u16>,
+        worker: &mut WorkerPage<A::Run>,
+        leaving: Leaving,
         now: u64,
     )
-        ensures here { AreHere self.old.output.buffer (option_to_list taken ++ loaded.items)
-            → self.new ≡ locked_with self.old
-            (output_ends self.old.output (returned taken loaded.items) server now) }
-        ensures each { IsHandedBack (live_looks self.old.output.buffer now)
-            (map kept_back (option_to_list taken) ++ map lost_back loaded.items) now
-            self.new.output.buffer }
-        ensures rest { self.new ≡ locked_with self.old (record (self.old.output) {
-          buffer = self.new.output.buffer;
-          servers = live_loses self.old.output.servers server
-              (max self.old.output.buffer.moment now);
-        }) }
+        requires { MayEnd worker.old self.old.output.book.setting.output leaving.kind
+            leaving.taken leaving.loaded.items leaving.server }
+        ensures ended { self.new ≡ locked_with self.old (output_ends self.old.output
+            (returned leaving.taken leaving.loaded.items) leaving.server now) }
+        ensures ends { Ends worker.old worker.new }
         ensures same { seat.new ≡ seat.old }
     {
         let _ = seat;
-        self.note_lost(server, &taken, &loaded, now);
-        self.state.end(taken, loaded, server, now);
+        self.note_lost(&leaving, now);
+        self.state.end(worker, leaving, now);
     }
 }

@@ -79,10 +79,10 @@ ghost use Rattle.fwd_model.specs.Outputs.{
   live_count_at,
   live_loses,
 };
+ghost use Rattle.fwd_run.specs.Pages.{AreCarried};
 ghost use Rattle.fwd_output.specs.Coupling.{IsCoupled};
 ghost use Rattle.fwd_output.specs.OutputEvents.{IsLiveOutput};
 ghost use Rattle.fwd_output.specs.HandedBack.{
-  AreHere,
   IsHandedBack,
   chunk_at,
   kept_back,
@@ -362,7 +362,7 @@ impl OutputState {
         server: Option<u16>,
         now: u64,
     )
-        ensures here { AreHere self.old.buffer (option_to_list taken ++ loaded.items)
+        ensures here { AreCarried self.old.buffer (option_to_list taken ++ loaded.items)
             → self.new ≡ output_ends self.old (returned taken loaded.items) server now }
         ensures each { IsHandedBack (live_looks self.old.buffer now)
             (map kept_back (option_to_list taken) ++ map lost_back loaded.items) now

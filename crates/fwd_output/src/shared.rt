@@ -17,6 +17,7 @@ ghost use Rattle.std.specs.Prelude.{
   OnErr,
 };
 ghost use Rattle.std.specs.Arc.{arc_value};
+ghost use Rattle.std.specs.Sync.Mutex.{mutex_guard_value};
 ghost use Rattle.std.specs.List.Sorted.{IsPermutation};
 ghost use Rattle.fwd_chunks.specs.Live.{LiveBuffer, live_counts};
 ghost use Rattle.fwd_chunks.specs.Soundness.{IsSound};
@@ -24,30 +25,47 @@ ghost use Rattle.fwd_chunks.specs.TagCounts.{AddsUp, IsSnapshot, live_report};
 ghost use Rattle.fwd_session.specs.ServerAcks.{IsServerAck};
 ghost use Rattle.fwd_book.specs.History.{BookSetting};
 ghost use Rattle.fwd_output.specs.Looks.{IsForUse, may_look};
-ghost use Rattle.fwd_output.specs.RunEvents.{AreGivenAfter};
+ghost use Rattle.fwd_output.specs.Paged.{
+  AreGivenAfter,
+  Ends,
+  Gives,
+  HasAcked,
+  IsAsked,
+  IsReportAfter,
+  MayEnd,
+  MayTake,
+  Settles,
+  Takes,
+  taken_of,
+};
 ghost use Rattle.fwd_output.specs.Seats.{parts_of, counts_of};
 ghost use Rattle.fwd_output.specs.Tickets.{AreGiven, IsRight, ticket_of};
 
 use crate::collecting::Collected;
+use crate::leaving::Leaving;
 use crate::locked::{Closing, Locked};
 use crate::offer::Found;
+use crate::routed_request::RoutedRequest;
 use crate::server_view::{ChunkSearch, Look, ServerView};
 use crate::tally::{Ledgered, Seat, Tally};
 use crate::ticket::Ticket;
 use fwd_book::AdmitRefusal;
 use fwd_chunks::{Carried, Counts, FlushKind, Report, Snapshot, tags_add_up};
 use fwd_history::Run;
-use fwd_modes::{Batch, Origin};
+use fwd_modes::Batch;
+use fwd_run::{EndedPage, SourcePage, WorkerPage};
 use fwd_session::Acked;
 use std::alloc::{AllocError, Global};
 use std::sync::ledger::Ledger;
-use std::sync::{Arc, Mutex, Wait};
+use std::sync::{Arc, Condvar, Mutex, MutexGuard, Wait};
 
 /// An output under its lock. Each call takes the lock and makes the one call of its name on what
 /// stands under it: the lock is held for that call, and never while a link is read or written.
 #[derive(Drop)]
 pub struct SharedOutput<A: Tally, S: Tally> {
     lock: Mutex<Locked<A, S>>,
+    /// Where one waits that finds another output under the lock than its own: nobody does.
+    other: Condvar,
 }
 
 impl<A: Tally, S: Tally> SharedOutput<A, S> {
@@ -55,7 +73,18 @@ impl<A: Tally, S: Tally> SharedOutput<A, S> {
     pub fn new(locked: Locked<A, S>) -> Self {
         SharedOutput {
             lock: Mutex::new(locked),
+            other: Condvar::new(),
         }
+    }
+
+    /// The lock is taken, and the output of this number lies under it. It always does, but no
+    /// clause sees that through a lock, so that it is looked at each time. Were it another, this
+    /// would wait for ever.
+    fn lock_of<R: Wait>(&self, rt: &R, output: u16) -> MutexGuard<'_, Locked<A, S>>
+        ensures { (mutex_guard_value result).output.book.setting.output ≡ output }
+    {
+        self.other
+            .wait_while(rt, self.lock.lock(rt), |locked| locked.output() != output)
     }
 
     /// The entries accepted, settled and held, with the bytes held and the chunks that hold them:
@@ -94,25 +123,32 @@ impl<A: Tally, S: Tally> SharedOutput<A, S> {
         self.lock.lock(rt).snapshot(alloc)
     }
 
-    /// Admits a connection's request at a moment (milliseconds), and gives a ticket for it. It is
-    /// refused as `NotNow`, `Full` or `NumbersSpent`, or when out of memory, and then comes back.
+    /// Admits a connection's request at a moment (milliseconds), the first that waits there, and
+    /// gives a ticket for it. It is refused as `NotNow`, `Full` or `NumbersSpent`, or when out of
+    /// memory, and then comes back.
     pub fn admit<R: Wait>(
         &self,
         rt: &R,
         alloc: Global,
         seat: &mut A::Seat,
-        origin: Origin,
-        batch: Batch,
+        source: &mut SourcePage<A::Run>,
+        request: RoutedRequest,
         now: u64,
     ) -> Result<Ticket, (AdmitRefusal, Batch)>
-        ensures ticket { IfOk result (λ t. (t.origin ≡ origin) × (t.batch ≡ batch)) }
-        ensures back { IfErr result (λ e. e.1 ≡ batch) }
+        requires { IsAsked source.old request.output request.origin request.batch }
+        ensures ticket { IfOk result (λ t.
+            (t.origin ≡ request.origin) × (t.batch ≡ request.batch)
+            × (t.setting.output ≡ request.output)) }
+        ensures back { IfErr result (λ e. e.1 ≡ request.batch) }
+        ensures gives { OnOk result (Gives source.old source.new) }
+        ensures stays { OnErr result (source.new ≡ source.old) }
         ensures counted { OnOk result (A.count seat.new
-            ≡ A.count seat.old + A.kept (length batch.entries)) }
+            ≡ A.count seat.old + A.kept (length request.batch.entries)) }
         ensures same { OnErr result (A.count seat.new ≡ A.count seat.old) }
         ensures parts { A.parts seat.new ≡ A.parts seat.old }
     {
-        self.lock.lock(rt).admit(alloc, seat, origin, batch, now)
+        self.lock_of(rt, request.output)
+            .admit(alloc, seat, source, request, now)
     }
 
     /// Receipts for the tickets whose entries are all acknowledged, the other tickets, and the
@@ -165,12 +201,16 @@ impl<A: Tally, S: Tally> SharedOutput<A, S> {
         rt: &R,
         alloc: Global,
         seat: &mut S::Seat,
-        worker: u16,
+        worker: &mut WorkerPage<A::Run>,
         now: u64,
     ) -> Result<Option<Carried>, AllocError>
-        ensures { seat.new ≡ seat.old }
+        requires { MayTake worker.old worker.old.output }
+        ensures takes { IfOk result (λ carried. Takes worker.old carried worker.new) }
+        ensures stays { OnErr result (worker.new ≡ worker.old) }
+        ensures same { seat.new ≡ seat.old }
     {
-        self.lock.lock(rt).take(alloc, seat, worker, now)
+        self.lock_of(rt, worker.output())
+            .take(alloc, seat, worker, now)
     }
 
     /// What a worker sees at a moment (milliseconds); and where it looks for a chunk for its use,
@@ -181,16 +221,23 @@ impl<A: Tally, S: Tally> SharedOutput<A, S> {
         rt: &R,
         alloc: Global,
         seat: &mut S::Seat,
+        worker: &mut WorkerPage<A::Run>,
         search: ChunkSearch,
         now: u64,
     ) -> Look
+        requires may { MayTake worker.old worker.old.output }
+        requires own { search.worker ≡ worker.old.worker }
         ensures leaves { may_look result.view search.chunk_use ≡ false
             → result.found ≡ Ok Found.Nothing }
         ensures fits { IfOk result.found (λ found.
             IsForUse found result.view search.chunk_use) }
+        ensures takes { IfOk result.found (λ found.
+            Takes worker.old (taken_of found) worker.new) }
+        ensures stays { OnErr result.found (worker.new ≡ worker.old) }
         ensures same { seat.new ≡ seat.old }
     {
-        self.lock.lock(rt).look_for(alloc, seat, search, now)
+        self.lock_of(rt, worker.output())
+            .look_for(alloc, seat, worker, search, now)
     }
 
     /// What a worker sees at a moment (milliseconds) before it takes a chunk.
@@ -218,21 +265,31 @@ impl<A: Tally, S: Tally> SharedOutput<A, S> {
         self.lock.lock(rt).miss(chunk, server);
     }
 
-    /// A server acknowledged the chunk: its entries are settled, and answered is how many they are.
-    /// A chunk that no worker has from this output counts 0, and no chunk more than its entries.
+    /// A server acknowledged the chunk: its entries are settled, and answered is how many they are,
+    /// no more than the chunk has.
     pub fn settle<R: Wait>(
         &self,
         rt: &R,
         seat: &mut S::Seat,
+        worker: &mut WorkerPage<A::Run>,
         acked: Arc<Acked>,
         carried: Carried,
     ) -> u64
-        requires { IsServerAck (arc_value acked) carried }
+        requires backed { IsServerAck (arc_value acked) carried }
+        requires acked { HasAcked worker.old worker.old.output (arc_value acked) carried }
+        ensures settles { Settles worker.old worker.new }
         ensures most { result ≤ length carried.entries }
         ensures counted { S.count seat.new ≡ S.count seat.old + S.kept result }
         ensures parts { S.parts seat.new ≡ S.parts seat.old }
     {
-        self.lock.lock(rt).settle(seat, acked, carried)
+        self.lock_of(rt, worker.output())
+            .settle(seat, worker, acked, carried)
+    }
+
+    /// A server is lost at a moment (milliseconds) that could not be reached, and no chunk. Answers
+    /// whether the output has such a server.
+    pub fn lose<R: Wait>(&self, rt: &R, alloc: Global, server: u16, now: u64) -> bool {
+        self.lock.lock(rt).lose(alloc, server, now)
     }
 
     /// A worker's end at a moment (milliseconds): the chunk that it took and did not load is given
@@ -241,14 +298,17 @@ impl<A: Tally, S: Tally> SharedOutput<A, S> {
         &self,
         rt: &R,
         seat: &mut S::Seat,
-        taken: Option<Carried>,
-        loaded: Vec<Carried>,
-        server: Option<u16>,
+        worker: &mut WorkerPage<A::Run>,
+        leaving: Leaving,
         now: u64,
     )
-        ensures { seat.new ≡ seat.old }
+        requires { MayEnd worker.old worker.old.output leaving.kind leaving.taken
+            leaving.loaded.items leaving.server }
+        ensures ends { Ends worker.old worker.new }
+        ensures same { seat.new ≡ seat.old }
     {
-        self.lock.lock(rt).end(seat, taken, loaded, server, now);
+        self.lock_of(rt, worker.output())
+            .end(seat, worker, leaving, now);
     }
 }
 
@@ -261,7 +321,21 @@ impl<L: Ledger + Run, M: Ledger + Run> SharedOutput<Ledgered<L>, Ledgered<M>> {
         ensures settled { result.settled ≡ counts_of work_seats.items }
         ensures left { result.accepted ≡ result.settled + result.left }
     {
-        let SharedOutput { lock } = self;
+        let SharedOutput { lock, other: _ } = self;
         lock.into_inner().close(admit_seats, work_seats)
+    }
+}
+
+impl<A: Tally + Drop, S: Tally + Drop> SharedOutput<A, S> {
+    /// Nobody shares the output any more: its report, and its page, by which it is what that
+    /// reports. The only error is out of memory.
+    pub fn last_report(self, alloc: Global) -> Result<(Report, EndedPage<A::Run>), AllocError>
+        ensures report { IfOk result (λ last. IsReportAfter last.1.past last.1.output last.0) }
+        ensures adds_up { IfOk result (λ last. AddsUp last.0) }
+    {
+        let SharedOutput { lock, other: _ } = self;
+        let locked = lock.into_inner();
+        let report = locked.report(alloc)?;
+        Ok((report, locked.ends()))
     }
 }

@@ -36,8 +36,8 @@ use Rattle.fwd_peers.specs.Streams.{StreamCall, IsReading, IsVisit, is_full}
 -- be sent to it; its live part; how many bytes of acknowledgements are promised, and for how many
 -- bytes there is room; what its stream answered to all reads, and to all writes; when it sent
 -- something last, or came, in milliseconds; the number of the request that it gave last, and how
--- many of those that it gave were answered; and how many bytes it is owed: those take beside their
--- entries that were not
+-- many of those that it gave were answered; how many bytes it is owed: those take beside their
+-- entries that were not; and whether one that it gave was refused, so that it gives none any more
 pub record PeerShown : Type 0 where
   pub id : ℕ
   pub stage : PeerState
@@ -52,6 +52,7 @@ pub record PeerShown : Type 0 where
   pub given : ℕ
   pub answered : ℕ
   pub owed : ℕ
+  pub refused : Bool
 
 -- the relay owes it nothing: no acknowledgement is promised, no byte waits to be sent, and no
 -- request waits to be admitted
@@ -177,12 +178,13 @@ LacksRoom s bytes = (s.room < bytes) ⊎ (2 ^ 64 ≤ bytes)
 
 -- The first request that waits is given, under the connection's own id, and there is room for its
 -- acknowledgement and for all that were promised before; and what it takes beside its entries is
--- owed. Or none is given, and it is as it was: none waits, or there is not that room.
+-- owed. Or none is given, and it is as it was: one that it gave was refused, none waits, or there is
+-- not that room.
 abbrev pub Gives : PeerShown → Option (Origin × Request) → PeerShown → Type 0
 Gives s None t =
-    (t ≡ s) × ((first_asked s ≡ None)
+    (t ≡ s) × ((s.refused ≡ true) ⊎ ((first_asked s ≡ None)
     ⊎ ((asked : Origin × Request) × ((first_asked s ≡ Some asked)
-    × LacksRoom s (promised_with s asked.1))))
+    × LacksRoom s (promised_with s asked.1)))))
 Gives s (Some asked) t =
     (first_asked s ≡ Some asked) × (promised_with s asked.1 ≤ t.room)
     × (t ≡ record s {
@@ -193,6 +195,24 @@ Gives s (Some asked) t =
       owed = owed_with s asked.1;
     })
     × (asked.0.conn ≡ s.id)
+
+-- the first request that waits is given, and is refused: then none is given any more
+pub record GivesInVain (s : PeerShown) (asked : Origin × Request) (t : PeerShown) : Type 0 where
+  pub given : PeerShown
+  pub gives : Gives s (Some asked) given
+  pub rest : t ≡ record given { refused = true }
+
+-- the first request that waits is to be given: there is room for its acknowledgement and for all that
+-- were promised before, and what it takes beside its entries is owed
+abbrev pub Promises : PeerShown → Origin × Request → PeerShown → Type 0
+Promises s asked t =
+    (s.refused ≡ false) × (first_asked s ≡ Some asked) × (promised_with s asked.1 ≤ t.room)
+    × (t ≡ record s {
+      promised = promised_with s asked.1;
+      room = t.room;
+      given = asked.0.request;
+      owed = owed_with s asked.1;
+    })
 
 -- ---- what it is told
 

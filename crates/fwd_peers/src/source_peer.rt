@@ -19,36 +19,36 @@ ghost use Rattle.std.specs.Prelude.{
   None,
   Some,
 };
-ghost use Rattle.fwd_modes.specs.Acks.{ack_text};
-ghost use Rattle.fwd_source.specs.Live.{source_appends};
 ghost use Rattle.fwd_peers.specs.Streams.{IsReading};
 ghost use Rattle.fwd_peers.specs.Peers as peers;
 
+mod asking;
+
 use crate::close_reason::{CloseReason, PeerEnd};
 use crate::leave_stage::LeaveStage;
-use crate::limits::{ACK_FRONT, GREETING, SHORT_REQUEST, SMALL_PIECE, UNSENT};
+use crate::limits::{GREETING, SHORT_REQUEST, SMALL_PIECE, UNSENT};
 use crate::peer_address::PeerAddress;
 use crate::peer_socket::PeerSocket;
 use crate::peer_state::PeerState;
 use crate::peer_stream::{PeerStream, Stream, Visit};
-use crate::request_cost::upkeep;
 use crate::waiting_place::WaitingPlace;
-use fwd_book::{AdmitRefusal, Receipt};
+use fwd_book::AdmitRefusal;
+use fwd_history::Run;
 use fwd_match::Routes;
-use fwd_modes::{Batch, Origin};
-use fwd_source::{Piece, Source, SourceFault};
+use fwd_output::PagedSource;
+use fwd_source::{Piece, SourceFault};
 use std::alloc::Global;
 use std::marker::Model;
 
 /// A source's connection: its stream, and what it sent and is sent.
 #[derive(Drop)]
-pub struct SourcePeer {
+pub struct SourcePeer<J: Run> {
     /// The source's own.
     id: u64,
     pub stream: PeerStream,
     /// Whose it is.
     peer: PeerAddress,
-    source: Source,
+    source: PagedSource<J>,
     stage: PeerState,
     /// Why the relay closes it, until that is told.
     why: Option<PeerEnd>,
@@ -73,7 +73,7 @@ pub struct SourcePeer {
     leave: LeaveStage,
 }
 
-impl Model for SourcePeer {
+impl<J: Run> Model for SourcePeer<J> {
     ghost use Rattle.std.specs.Prelude.{◌≡◌};
     ghost use Rattle.fwd_peers.specs.Peers.{PeerShown};
 
@@ -93,58 +93,23 @@ impl Model for SourcePeer {
       given = p.given;
       answered = p.answered;
       owed = p.owed;
+      refused = p.source.refused;
     } };
 
     ghost invariant = { λ p. p.id ≡ p.source.live.setup.conn };
 }
 
-/// How many bytes the acknowledgement of a request has, where its sender asked for one.
-#[tactic(auto, using(crate::proofs::Acks::ack_length))]
-fn ack_size(batch: &Batch) -> usize
-    ensures { result ≡ peers.ack_size batch.now.chunk }
-{
-    match batch.chunk() {
-        None => 0,
-        Some(chunk) => ACK_FRONT.len() + chunk.len(),
-    }
-}
-
-/// Puts the acknowledgement of a chunk of this value behind the bytes that wait to be sent, and
-/// says whether it did. It does not where memory is refused, or what waits was dropped.
-#[tactic(auto, using(crate::proofs::Acks::ack_length, crate::proofs::Acks::ack_appended))]
-fn append_ack(source: &mut Source, chunk: &[u8]) -> bool
-    ensures put { result ≡ true
-        → source.new.live ≡ source_appends source.old.live (ack_text chunk.now) }
-    ensures room { result ≡ true
-        → source.old.room ≤ source.new.room + length (ack_text chunk.now) }
-    ensures not_put { result ≡ false → source.new.live ≡ source.old.live }
-    ensures why_not { result ≡ false → (source.old.room < length (ack_text chunk.now))
-        ⊎ (source.old.live.shut ≡ true) }
-{
-    let size = ACK_FRONT.len() + chunk.len();
-    if source.reserve(size).is_err() {
-        return false;
-    }
-    if source.answer(&ACK_FRONT).is_err() {
-        return false;
-    }
-    source.answer(chunk).unwrap();
-    true
-}
-
-impl SourcePeer {
+impl<J: Run> SourcePeer<J> {
     /// A source's connection over its stream, at the address that it comes from, which came at a
-    /// moment (milliseconds). `id` is the source's.
+    /// moment (milliseconds).
     pub fn new(
-        id: u64,
         socket: PeerSocket,
         peer: PeerAddress,
-        source: Source,
+        source: PagedSource<J>,
         now: u64,
-    ) -> SourcePeer
-        requires { source.live.setup.conn ≡ id }
+    ) -> SourcePeer<J>
         ensures { result ≡ record {
-          id = id;
+          id = source.live.setup.conn;
           stage = PeerState.Open;
           why = None;
           held = false;
@@ -157,10 +122,11 @@ impl SourcePeer {
           given = 0;
           answered = 0;
           owed = 0;
+          refused = source.refused;
         } }
     {
         SourcePeer {
-            id,
+            id: source.id(),
             stream: PeerStream::new(socket),
             peer,
             source,
@@ -178,7 +144,7 @@ impl SourcePeer {
         }
     }
 
-    /// Its id: the one of its source. It is kept here, since a source does not tell it.
+    /// Its id: the one of its source. It is kept here, where it is read often.
     pub fn id(&self) -> u64
         ensures value { result ≡ self.now.id }
         ensures own { peers.HasOwnId self.now }
@@ -200,7 +166,7 @@ impl SourcePeer {
         if self.stage != PeerState::Open {
             return false;
         }
-        self.is_held = self.source.out().len() >= UNSENT;
+        self.is_held = self.source.now().out().len() >= UNSENT;
         if self.is_held {
             return false;
         }
@@ -245,10 +211,10 @@ impl SourcePeer {
         }
         self.heard = now;
         let told = self.source.piece(alloc, bytes);
-        let shortest = self.source.waiting().saturating_mul(SHORT_REQUEST);
+        let shortest = self.source.now().waiting().saturating_mul(SHORT_REQUEST);
         self.is_dense = bytes.len() < shortest;
         match told {
-            Ok(told) => match told.piece {
+            Ok(piece) => match piece {
                 Piece::Waiting(_) => {}
                 Piece::Fault(fault) => self.linger(fault),
                 Piece::Closed => self.linger(SourceFault::Closed),
@@ -325,14 +291,14 @@ impl SourcePeer {
     pub fn awaits_login(&self) -> bool
         ensures { result ≡ self.now.live.awaits }
     {
-        self.source.awaits_login()
+        self.source.now().awaits_login()
     }
 
     /// Whether it is still to log in, and more bytes of it wait than a PING may have.
     pub fn is_too_long(&self) -> bool
         ensures { result ≡ peers.is_too_long self.now }
     {
-        self.source.awaits_login() && self.source.unfinished() > GREETING
+        self.source.now().awaits_login() && self.source.now().unfinished() > GREETING
     }
 
     /// How many bytes it is to be read in a visit, of so many at most: few where its requests are
@@ -341,8 +307,8 @@ impl SourcePeer {
         ensures most { result ≤ most }
         ensures some { peers.is_too_long self.now ≡ false → 0 < most → 0 < result }
     {
-        let portion = if self.source.awaits_login() {
-            (GREETING + 1).saturating_sub(self.source.unfinished())
+        let portion = if self.source.now().awaits_login() {
+            (GREETING + 1).saturating_sub(self.source.now().unfinished())
         } else if self.is_dense {
             SMALL_PIECE
         } else {
@@ -362,7 +328,7 @@ impl SourcePeer {
     pub fn asked_bytes(&self) -> usize
         ensures { result ≡ peers.asked_bytes self.now }
     {
-        match self.source.peek() {
+        match self.source.now().peek() {
             None => 0,
             Some((_, batch)) => batch.entries().len(),
         }
@@ -372,7 +338,7 @@ impl SourcePeer {
     pub fn asks(&self) -> bool
         ensures { result ≡ peers.asks self.now }
     {
-        match self.source.peek() {
+        match self.source.now().peek() {
             None => false,
             Some((_, batch)) => batch.chunk().is_some(),
         }
@@ -407,84 +373,28 @@ impl SourcePeer {
     pub fn is_owed_nothing(&self) -> bool
         ensures { result ≡ peers.is_owed_nothing self.now }
     {
-        self.promised == 0 && self.source.out().is_empty() && self.source.waiting() == 0
+        self.promised == 0 && self.source.now().out().is_empty() && self.source.now().waiting() == 0
     }
 
     /// How many requests wait to be admitted.
     pub fn waiting(&self) -> usize
         ensures { result ≡ length self.now.live.waiting }
     {
-        self.source.waiting()
+        self.source.now().waiting()
     }
 
     /// The output that the first request that waits goes to, if one waits, and one takes it.
     pub fn route(&self, routes: &Routes) -> Option<u16>
         ensures { result ≡ peers.first_route routes.now self.now }
     {
-        let (_, batch) = self.source.peek()?;
+        let (_, batch) = self.source.now().peek()?;
         routes.first(batch.tag())
     }
 
     /// The tag of the first request that waits, if one waits.
     pub fn first_tag(&self) -> Option<&[u8]> {
-        let (_, batch) = self.source.peek()?;
+        let (_, batch) = self.source.now().peek()?;
         Some(batch.tag())
-    }
-
-    /// Takes the first request that waits, once there is room for its acknowledgement. Where there
-    /// is none, when out of memory, nothing has changed. So a receipt cannot be refused for want of
-    /// room.
-    pub fn next(&mut self) -> Option<(Origin, Batch)>
-        ensures { peers.Gives self.old result self.new }
-    {
-        let (origin, batch) = self.source.peek()?;
-        let promised = self.promised.checked_add(ack_size(batch))?;
-        let owed = upkeep(batch.tag(), batch.chunk());
-        self.source.reserve(promised).ok()?;
-        self.promised = promised;
-        self.owed = self.owed.saturating_add(owed);
-        self.given = origin.request;
-        self.source.next()
-    }
-
-    /// Puts the acknowledgement of a chunk of this value behind the bytes that wait to be sent, as
-    /// was promised. Where it cannot, which is when out of memory, the connection is over.
-    fn put(&mut self, chunk: &[u8])
-        ensures { peers.IsTold self.old (Some (ack_text chunk.now)) self.new }
-    {
-        let size = ACK_FRONT.len() + chunk.len();
-        self.promised = self.promised.saturating_sub(size);
-        if append_ack(&mut self.source, chunk) {
-            return;
-        }
-        self.starve();
-    }
-
-    /// One more of the requests that it gave was answered.
-    fn note_answered(&mut self)
-        ensures { self.new ≡ peers.with_one_answered self.old }
-    {
-        if self.answered < self.given {
-            self.answered += 1;
-        }
-    }
-
-    /// Tells the connection of a receipt, if it is of one of its requests and it asked to be told.
-    /// When out of memory the connection is over.
-    pub fn answer(&mut self, receipt: &Receipt)
-        ensures { peers.IsTold (peers.counted receipt.now self.old.id self.old)
-            (peers.told_by receipt.now self.old.id) self.new }
-    {
-        if receipt.origin().conn != self.id {
-            return;
-        }
-        self.note_answered();
-        let owed = upkeep(receipt.tag(), receipt.chunk());
-        self.owed = self.owed.saturating_sub(owed);
-        let Some(chunk) = receipt.chunk() else {
-            return;
-        };
-        self.put(chunk);
     }
 
     /// The connection is over, once what waits was written as far as its stream takes it.
@@ -501,11 +411,11 @@ impl SourcePeer {
         ensures { result ≡ peers.silent_since self.now }
     {
         let is_quiet = self.stage == PeerState::Open
-            && !self.source.awaits_login()
-            && self.source.waiting() == 0
+            && !self.source.now().awaits_login()
+            && self.source.now().waiting() == 0
             && self.given <= self.answered
-            && self.source.unfinished() == 0
-            && self.source.out().is_empty();
+            && self.source.now().unfinished() == 0
+            && self.source.now().out().is_empty();
         if is_quiet { Some(self.heard) } else { None }
     }
 
@@ -514,21 +424,21 @@ impl SourcePeer {
     pub fn is_silent(&self) -> bool
         ensures { result ≡ peers.is_silent self.now }
     {
-        self.source.unfinished() == 0 && self.has_given_none()
+        self.source.now().unfinished() == 0 && self.has_given_none()
     }
 
     /// Whether it was let in, and gave no request, also none that waits.
     fn has_given_none(&self) -> bool
         ensures { result ≡ peers.has_given_none self.now }
     {
-        !self.source.awaits_login() && self.given == 0 && self.source.waiting() == 0
+        !self.source.now().awaits_login() && self.given == 0 && self.source.now().waiting() == 0
     }
 
     /// Whether it was not read, and may be now.
     pub fn is_free(&self) -> bool
         ensures { result ≡ peers.is_free self.now }
     {
-        self.is_held && self.source.out().len() < UNSENT
+        self.is_held && self.source.now().out().len() < UNSENT
     }
 
     /// Writes what waits as far as the stream takes it, and says whether the connection stands.
@@ -544,7 +454,7 @@ impl SourcePeer {
     fn send(&mut self) -> Visit
         ensures { peers.Sends self.old result self.new }
     {
-        let (count, visit) = self.stream.send(self.source.out());
+        let (count, visit) = self.stream.send(self.source.now().out());
         self.source.drained(count);
         visit
     }
@@ -567,7 +477,7 @@ impl SourcePeer {
     {
         match self.stage {
             PeerState::Open => true,
-            PeerState::Lingering => !self.source.out().is_empty(),
+            PeerState::Lingering => !self.source.now().out().is_empty(),
             PeerState::Over => false,
         }
     }

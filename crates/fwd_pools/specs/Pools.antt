@@ -1,5 +1,6 @@
 -- What the outputs of a relay are, as its settings say it.
 use Rattle.std.specs.Prelude.{
+  ◌≡◌,
   ℕ,
   ◌+◌,
   ◌++◌,
@@ -14,14 +15,17 @@ use Rattle.std.specs.Prelude.{
   replicate,
 }
 use Rattle.std.specs.declared.net.socket_addr.SocketAddr.{SocketAddr}
+use Rattle.std.specs.Arc.{arc_value}
+use Rattle.fwd_chunks.specs.declared.limits.BufferLimits.{BufferLimits}
 use Rattle.fwd_settings.specs.declared.settings.OutputSettings.{OutputSettings}
 use Rattle.fwd_settings.specs.declared.settings.WhenFull.{WhenFull}
 use Rattle.fwd_settings.specs.declared.settings.WhenFull.TheVariants.{Close, Wait}
 use Rattle.fwd_config.specs.Configs.{OutputParts, parts_set}
 use Rattle.fwd_model.specs.declared.config.OutputConfig.{OutputConfig}
-use Rattle.fwd_model.specs.Outputs.{no_requests}
+use Rattle.fwd_output.specs.Paged.{begun_by}
 use Rattle.fwd_output.specs.Turns.{LockedState}
 use Rattle.fwd_reader.specs.declared.output.Output.{Output}
+use Rattle.fwd_pools.specs.declared.worker_pools.Pool.{Pool}
 
 -- where an output's servers are reached, in their order, and whether sources wait where it is full
 pub record Hop : Type 0 where
@@ -76,16 +80,19 @@ abbrev pub shown_by : OutputSettings → OutputShown
 shown_by s = made_of (parts_set s) (hop_of s)
 
 -- what lies under the lock of the output of this number in this run before any request: it keeps to
--- the limits of its configuration, tries that one's servers by their waits, and nobody claims what
--- is free
-abbrev pub locked_by : OutputConfig → (run : List ℕ) → (number : ℕ) → LockedState
-locked_by config run number = record {
-  output = no_requests (record { limits = config.limits; run = run; output = number }) (record {
-    standby = config.standby;
-    retry_wait = config.limits.retry_wait;
-    retry_max = config.limits.retry_max;
-  });
+-- its limits, tries its servers, of which these are standbys, by its waits, and nobody claims what is
+-- free
+abbrev pub locked_by : BufferLimits → (standby : List Bool) → (run : List ℕ) → (number : ℕ) → LockedState
+locked_by limits standby run number = record {
+  output = begun_by limits run number standby;
   accepted = 0;
   settled = 0;
   claimed = 0;
 }
+
+-- what an output's workers share is of its configuration
+pub record IsPoolOf (config : OutputConfig) (pool : Pool) : Type 0 where
+  pub workers : pool.workers ≡ config.workers
+  pub servers : pool.servers ≡ length config.standby
+  pub login : arc_value pool.login ≡ config.login
+  pub acks : pool.acks ≡ config.acks

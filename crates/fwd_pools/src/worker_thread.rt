@@ -10,7 +10,7 @@ use fwd_links::{
 };
 use fwd_monitors::StartFault;
 use fwd_reader::{Output, ReaderInboxes};
-use fwd_workers::{Worker, WorkerEnd};
+use fwd_workers::{PlacedWorker, WorkerEnd};
 use std::alloc::Global;
 use std::marker::Model;
 use std::net::Net;
@@ -36,7 +36,7 @@ enum Backoff {
 struct WorkerGate<'a, J: Run> {
     flags: &'a SharedFlags,
     /// Where it tells what it did: in front all, and to the other readers what they are to hear.
-    inboxes: &'a ReaderInboxes,
+    inboxes: &'a ReaderInboxes<J>,
     number: u16,
     output: &'a Output<J>,
     wait: &'a SharedWait,
@@ -199,7 +199,7 @@ impl<'a, J: Run> Gate for WorkerGate<'a, J> {
 pub struct WorkerSurroundings<'a, J: Run> {
     pub flags: &'a SharedFlags,
     pub outputs: &'a [Output<J>],
-    pub inboxes: &'a ReaderInboxes,
+    pub inboxes: &'a ReaderInboxes<J>,
     pub start: Option<Instant>,
 }
 
@@ -244,7 +244,7 @@ impl<'a, J: Run, N: Net> Workplace<'a, J, N> {
     fn run<R: Wait + Clock>(
         self,
         rt: &R,
-        worker: &mut Worker,
+        worker: &mut PlacedWorker<J>,
         clock: &mut RunClock<'_, R>,
         turns: u64,
     ) -> WorkerEnd {
@@ -256,13 +256,13 @@ impl<'a, J: Run, N: Net> Workplace<'a, J, N> {
 }
 
 /// A worker before its thread runs. In contracts it is the number of its output.
-pub struct WorkerThread {
+pub struct WorkerThread<J: Run> {
     output: u16,
-    worker: Worker,
+    worker: PlacedWorker<J>,
     wait: SharedWait,
 }
 
-impl Model for WorkerThread {
+impl<J: Run> Model for WorkerThread<J> {
     ghost use Rattle.std.specs.Prelude.{ℕ};
 
     ghost Value = { ℕ };
@@ -271,7 +271,7 @@ impl Model for WorkerThread {
 }
 
 // A drop of its own is proved once, and not at each place where a worker goes.
-impl Drop for WorkerThread {
+impl<J: Run> Drop for WorkerThread<J> {
     fn drop(self) {
         let WorkerThread {
             output: _,
@@ -281,14 +281,14 @@ impl Drop for WorkerThread {
     }
 }
 
-impl WorkerThread {
+impl<J: Run> WorkerThread<J> {
     /// A worker of the output of this number, and what wakes it.
     pub(crate) fn new<R: Net>(
         rt: &R,
         alloc: Global,
         output: u16,
-        worker: Worker,
-    ) -> Result<(WorkerThread, WorkerWaker), StartFault>
+        worker: PlacedWorker<J>,
+    ) -> Result<(WorkerThread<J>, WorkerWaker), StartFault>
         ensures { IfOk result (λ p. p.0 ≡ output) }
     {
         let (wait, waker) = WorkerWait::new(rt, alloc)?;
@@ -302,7 +302,7 @@ impl WorkerThread {
 
     /// Works for its output in so many turns, or until all are to end, and says how that ended.
     /// Where there is no output of its number it does nothing.
-    pub fn work<J: Run, R: Net + Wait + Clock + AllocGlobal>(
+    pub fn work<R: Net + Wait + Clock + AllocGlobal>(
         &mut self,
         rt: &R,
         around: WorkerSurroundings<'_, J>,

@@ -1,6 +1,7 @@
 //! A run by the settings in a file.
 
 ghost use Rattle.std.specs.Prelude.{◌≡◌, ◌<◌, ℕ, List, length, true, Err, IfOk, IfErr, MatchResult};
+ghost use Rattle.fwd_run.specs.Pages.{page_count};
 ghost use Rattle.fwd_settings.specs.Ranges.{in_range};
 ghost use Rattle.fwd_loop.specs.Ends.{AddUp};
 ghost use Rattle.fwd_loop.specs.Loops.{relay_by};
@@ -13,12 +14,12 @@ ghost use Rattle.fwd_program.specs.Ends.{Runs};
 
 use crate::asked::Run;
 use crate::process_observer::ProcessObserver;
-use fwd_base::Text;
+use fwd_base::{Report, Text};
 use fwd_check::{SettingsFile, add_patterns, say_of_addresses, say_refused, say_unheard};
 use fwd_journal::{Journal, Log, RunEnd};
-use fwd_loop::{Ending, Loop, Observer, Outcome, Platform, StartFault};
+use fwd_loop::{Ending, Loop, Observer, Platform, StartFault};
 use fwd_monitor::page;
-use fwd_output::OpenedOutputs;
+use fwd_run::OpenedRun;
 use fwd_script::{Status, WriteFailed, flush, write_all};
 use fwd_settings::{Settings, SettingsFault};
 use std::io::Write;
@@ -61,37 +62,38 @@ fn settings_at<R: Files + AllocGlobal, E: Write>(
 /// The relay of these settings, whose outputs' match patterns are these.
 fn relay_of<J: fwd_history::Run + Send + Sync, R: Net + Files + AllocGlobal>(
     rt: &R,
-    opened: OpenedOutputs,
+    opened: OpenedRun,
     settings: Settings,
     patterns: Vec<Text>,
 ) -> Result<Loop<J>, StartFault>
     requires range { in_range settings ≡ true }
     requires book { opened.book ≡ J.book }
-    requires pages { 64 < opened.pages }
+    requires pages { opened.pages ≡ page_count }
     ensures { IfOk result (λ relay. relay ≡ relay_by settings) }
 {
     let relay = Loop::new(rt, opened, settings)?;
     Ok(relay.with_patterns(patterns))
 }
 
-/// Runs a relay of these settings under an observer. All that it does is told in one opened, in
-/// proofs alone.
+/// Runs a relay of these settings under an observer: what its outputs came to, and why it ended.
+/// All that it does has one history, in proofs alone, which begins here.
 fn run_relay<J: fwd_history::Run + Send + Sync, R: Platform + Files, V: Observer>(
     rt: &R,
-    opened: OpenedOutputs,
+    opened: OpenedRun,
     settings: Settings,
     terms: Terms,
     observer: &mut V,
-) -> Result<Outcome, StartFault>
+) -> Result<(Vec<Report>, Ending), StartFault>
     requires range { in_range settings ≡ true }
     requires book { opened.book ≡ J.book }
-    requires pages { 64 < opened.pages }
-    ensures count { IfOk result (λ o. length o.reports.items ≡ length settings.outputs) }
-    ensures add_up { IfOk result (λ o. AddUp o.reports.items) }
+    requires pages { opened.pages ≡ page_count }
+    ensures count { IfOk result (λ o. length o.0.items ≡ length settings.outputs) }
+    ensures add_up { IfOk result (λ o. AddUp o.0.items) }
 {
     let relay = relay_of::<J, R>(rt, opened, settings, terms.patterns)?;
     let mut told = ProcessObserver { rt, observer };
-    relay.run_to_end(rt, &mut told, terms.turns)
+    let outcome = relay.run_to_end(rt, &mut told, terms.turns)?;
+    Ok((outcome.reports, outcome.ending))
 }
 
 /// Runs by the settings that were found, under an observer, and writes the page of the last
@@ -110,11 +112,11 @@ fn run_found<R: Platform + Files, V: Observer, W: Write>(
         (λ end. Runs end text (W.contents output.old) (W.contents output.new)) }
 {
     let settings = found?;
-    let opened = OpenedOutputs::new(usize::MAX);
-    let outcome = run_relay::<Brand, R, V>(rt, opened, settings, terms, observer)?;
-    let text = page(rt.alloc(), &outcome.reports)?;
+    let opened = OpenedRun::new(usize::MAX);
+    let (reports, ending) = run_relay::<Brand, R, V>(rt, opened, settings, terms, observer)?;
+    let text = page(rt.alloc(), &reports)?;
     write_all(output, text.as_bytes())?;
-    Ok(outcome.ending)
+    Ok(ending)
 }
 
 /// The same as words ask for it, with the outputs' match patterns, under a journal where the log

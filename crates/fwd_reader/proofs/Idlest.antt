@@ -11,7 +11,7 @@ use Rattle.fwd_reader.specs.OpenConnections.{longer_idle}
 use Rattle.fwd_reader.specs.Idling.{IsIdlest, NoneIsIdle, idle_at, idle_since}
 
 -- what is found once these entries were looked at, too
-abbrev pub idlest_after : Option Idle → List (ℕ × OpenConnection) → Option Idle
+abbrev pub idlest_after : {J : Type 0} → Option Idle → List (ℕ × OpenConnection J) → Option Idle
 idlest_after found [] = found
 idlest_after found (entry ∷ entries) =
     idlest_after (longer_idle found entry.0 (idle_since entry.1)) entries
@@ -49,14 +49,14 @@ covers_new (Some f) key at = by (nat_le f.since at) refl
     by true e = (f, (refl, grind (arith, nat_tests, e)))
     by false e = (record { key = key; since = at }, (refl, omega arith))
 
-covers_after : (found : Option Idle) (entries : List (ℕ × OpenConnection)) (at : ℕ) → Covers found at
+covers_after : {J : Type 0} → (found : Option Idle) (entries : List (ℕ × OpenConnection J)) (at : ℕ) → Covers found at
     → Covers (idlest_after found entries) at
 covers_after found [] at old = old
 covers_after found (entry ∷ entries) at old =
     covers_after (longer_idle found entry.0 (idle_since entry.1)) entries at
     (covers_old found entry.0 (idle_since entry.1) at old)
 
-covers_listed : (found : Option Idle) (entries : List (ℕ × OpenConnection)) (entry : ℕ × OpenConnection) (at : ℕ)
+covers_listed : {J : Type 0} → (found : Option Idle) (entries : List (ℕ × OpenConnection J)) (entry : ℕ × OpenConnection J) (at : ℕ)
     → Contains entries entry → idle_since entry.1 ≡ Some at → Covers (idlest_after found entries) at
 covers_listed found [] entry at listed idle = absurd (omega (arith, listed.1))
 covers_listed found (e ∷ entries) entry at listed idle =
@@ -69,20 +69,20 @@ covers_listed found (e ∷ entries) entry at listed idle =
     ]
 
 -- what was found is one of these entries
-abbrev pub IsListed : List (ℕ × OpenConnection) → Option Idle → Type 0
-IsListed all found = (idle : Idle) → found ≡ Some idle
-    → (opened : OpenConnection) × (Contains all (idle.key, opened)
+abbrev pub IsListed : {J : Type 0} → List (ℕ × OpenConnection J) → Option Idle → Type 0
+IsListed {J} all found = (idle : Idle) → found ≡ Some idle
+    → (opened : OpenConnection J) × (Contains all (idle.key, opened)
     × (idle_since opened ≡ Some idle.since))
 
-listed_next : (all : List (ℕ × OpenConnection)) (found : Option Idle) (entry : ℕ × OpenConnection)
+listed_next : {J : Type 0} → (all : List (ℕ × OpenConnection J)) (found : Option Idle) (entry : ℕ × OpenConnection J)
     → Contains all entry → IsListed all found
     → IsListed all (longer_idle found entry.0 (idle_since entry.1))
-listed_next all found entry there old = by (idle_since entry.1) refl
+listed_next {J} all found entry there old = by (idle_since entry.1) refl
   where
     new : (since : ℕ) → idle_since entry.1 ≡ Some since
         → IsListed all (Some (record { key = entry.0; since = since }))
     new since is idle e =
-        subst (λ (i : Idle). (opened : OpenConnection) × (Contains all (i.key, opened)
+        subst (λ (i : Idle). (opened : OpenConnection J) × (Contains all (i.key, opened)
         × (idle_since opened ≡ Some i.since)))
         (is_same (record { key = entry.0; since = since }) idle e)
         (entry.1, (there, is))
@@ -101,8 +101,8 @@ listed_next all found entry there old = by (idle_since entry.1) refl
     by None is = old
     by (Some since) is = of_two found old since is
 
-listed_after : (all entries : List (ℕ × OpenConnection)) (found : Option Idle)
-    → ((entry : ℕ × OpenConnection) → Contains entries entry → Contains all entry) → IsListed all found
+listed_after : {J : Type 0} → (all entries : List (ℕ × OpenConnection J)) (found : Option Idle)
+    → ((entry : ℕ × OpenConnection J) → Contains entries entry → Contains all entry) → IsListed all found
     → IsListed all (idlest_after found entries)
 listed_after all [] found within old = old
 listed_after all (e ∷ entries) found within old =
@@ -111,11 +111,11 @@ listed_after all (e ∷ entries) found within old =
     (listed_next all found e (within e (0, omega arith, refl)) old)
 
 -- each source that is idle is covered by what all entries come to
-covers_all : (c : Connections) (key at : ℕ) → idle_at c key ≡ Some at
+covers_all : {J : Type 0} → (c : Connections J) (key at : ℕ) → idle_at c key ≡ Some at
     → Covers (idlest_after None (slots.entries c.opened)) at
-covers_all c key at idle = by (slots.get c.opened key) refl idle
+covers_all {J} c key at idle = by (slots.get c.opened key) refl idle
   where
-    by : (o : Option OpenConnection) → slots.get c.opened key ≡ o
+    by : (o : Option (OpenConnection J)) → slots.get c.opened key ≡ o
         → option_and_then idle_since o ≡ Some at
         → Covers (idlest_after None (slots.entries c.opened)) at
     by None e is = absurd cc
@@ -124,7 +124,7 @@ covers_all c key at idle = by (slots.get c.opened key) refl idle
         ((Contains-entries c.opened key opened).1 e) is
 
 -- what all entries come to is the idlest
-pub is_idlest : (c : Connections) (limit now : ℕ) (idle : Idle)
+pub is_idlest : {J : Type 0} → (c : Connections J) (limit now : ℕ) (idle : Idle)
     → idlest_after None (slots.entries c.opened) ≡ Some idle → limit ≤ now - idle.since
     → IsIdlest c limit now idle.key
 is_idlest c limit now idle found long =
@@ -149,14 +149,14 @@ if_none None P p = p
 if_none (Some x) P p = tt
 
 -- where that is nothing, none is idle
-pub none_idle : (c : Connections) (limit now : ℕ)
+pub none_idle : {J : Type 0} → (c : Connections J) (limit now : ℕ)
     → idlest_after None (slots.entries c.opened) ≡ None → NoneIsIdle c limit now
 none_idle c limit now found key since is =
     let covered = covers_all c key since is in
     absurd (none_some (sym found ∙ covered.1.0))
 
 -- where it is not idle for so long, none is
-pub none_so_long : (c : Connections) (limit now : ℕ) (idle : Idle)
+pub none_so_long : {J : Type 0} → (c : Connections J) (limit now : ℕ) (idle : Idle)
     → idlest_after None (slots.entries c.opened) ≡ Some idle → now - idle.since < limit
     → NoneIsIdle c limit now
 none_so_long c limit now idle found short key since is =

@@ -1,5 +1,6 @@
 pub mod Blocks
 pub mod Stores
+pub mod Ending
 pub mod Telling
 pub mod Admitting
 pub mod Told

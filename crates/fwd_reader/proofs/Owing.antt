@@ -1,7 +1,7 @@
 -- What is owed at an output changes, and at no other.
 use Rattle.std.proofs.Common.{arith, ◌≡◌, ◌<◌, ◌≤◌, ◌-◌, ℕ, zero, suc, List, [], ◌∷◌, length, get_or, refl, ap, ◌∙◌}
 use Rattle.std.specs.Prelude.{map, slice_set}
-use Rattle.fwd_output.specs.RunEvents.{RunEvent}
+use Rattle.fwd_run.specs.Runs.{RunEvent}
 use Rattle.fwd_reader.specs.declared.admission.source_line.SourceLine.{SourceLine}
 use Rattle.fwd_reader.specs.declared.open_tickets.OpenTickets.{OpenTickets}
 use Rattle.fwd_reader.specs.Owing.{changed_at}

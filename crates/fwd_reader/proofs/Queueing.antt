@@ -14,14 +14,14 @@ use Rattle.fwd_reader.specs.Queues.{Queues, IsAsked, IsWritten, Retries, Retries
 use Rattle.fwd_reader.proofs.Standing.{changed, updated}
 
 -- the source at a key takes a place still, where so many do not already
-pub keeps_none : (kept limit key : ℕ) (opened : slots.Slab OpenConnection) → limit ≤ kept
+pub keeps_none : {J : Type 0} → (kept limit key : ℕ) (opened : slots.Slab (OpenConnection J)) → limit ≤ kept
     → opened ≡ kept_at kept limit key opened
 keeps_none kept limit key opened many =
     let is : nat_le limit kept ≡ true = grind (arith, nat_tests) in
     sym (ap (λ b. if b then opened else with_changed opened key made_kept) is)
 
 -- or takes none
-pub keeps_one : (kept limit key : ℕ) (opened after : slots.Slab OpenConnection) → kept < limit
+pub keeps_one : {J : Type 0} → (kept limit key : ℕ) (opened after : slots.Slab (OpenConnection J)) → kept < limit
     → after ≡ with_changed opened key made_kept → after ≡ kept_at kept limit key opened
 keeps_one kept limit key opened after few is =
     let none : nat_le limit kept ≡ false = grind (arith, nat_tests) in
@@ -57,13 +57,13 @@ set_twice [] n x y = refl
 set_twice (z ∷ zs) zero x y = refl
 set_twice (z ∷ zs) (suc n) x y = ap (λ l. z ∷ l) (set_twice zs n x y)
 
-value_twice : (opened : slots.Slab OpenConnection) (key : ℕ) (a b : OpenConnection)
+value_twice : {J : Type 0} → (opened : slots.Slab (OpenConnection J)) (key : ℕ) (a b : OpenConnection J)
     → slots.with_value (slots.with_value opened key a) key b ≡ slots.with_value opened key b
 value_twice opened key a b =
     ap (λ ss. record opened { slots = ss }) (set_twice opened.slots key (Some a) (Some b))
 
 -- a source that was told to wait is asked again, and is ready
-pub asked_again : (s m t : Connections) (key : ℕ) (was : OpenConnection)
+pub asked_again : {J : Type 0} → (s m t : Connections J) (key : ℕ) (was : OpenConnection J)
     → slots.get s.opened key ≡ Some was → was.is_queued ≡ true
     → m.opened ≡ slots.with_value s.opened key (made_unqueued was) → m.ready ≡ s.ready
     → t.opened ≡ with_changed m.opened key (made_ready false)
@@ -90,7 +90,7 @@ asked_again s m t key was there queued opened ready flags put =
     )
 
 -- one that was not is not
-pub asked_not : (s t : Connections) (key : ℕ) (was : OpenConnection)
+pub asked_not : {J : Type 0} → (s t : Connections J) (key : ℕ) (was : OpenConnection J)
     → slots.get s.opened key ≡ Some was → was.is_queued ≡ false
     → t.opened ≡ slots.with_value s.opened key (made_unqueued was) → t.ready ≡ s.ready
     → Retries key s t
@@ -103,12 +103,12 @@ asked_not s t key was there queued opened ready =
     )
 
 -- nor one that does not stand
-pub asked_none : (s : Connections) (key : ℕ) → slots.get s.opened key ≡ None → Retries key s s
+pub asked_none : {J : Type 0} → (s : Connections J) (key : ℕ) → slots.get s.opened key ≡ None → Retries key s s
 asked_none s key none =
     subst (λ f. IsAsked f key s s) (sym (ap (option_map (λ o. o.is_queued)) none)) (refl, refl)
 
 -- the first of those that wait is asked again, and then the others
-more_retried : (waiting : List ℕ) (s u t : Connections) → waiting ≡ s.waiting.items
+more_retried : {J : Type 0} → (waiting : List ℕ) (s u t : Connections J) → waiting ≡ s.waiting.items
     → RetriesFirst waiting s u → RetriesAll u.waiting.items u t → RetriesAll waiting s t
 more_retried [] s u t same first others =
     let last : RetriesAll [] u t = subst (λ ws. RetriesAll ws u t) first.0 others in
@@ -116,23 +116,23 @@ more_retried [] s u t same first others =
 more_retried (key ∷ keys) s u t same first others =
     (u, (first, subst (λ ws. RetriesAll ws u t) first.0 others))
 
-pub retried : (s u t : Connections) → RetriesFirst s.waiting.items s u
+pub retried : {J : Type 0} → (s u t : Connections J) → RetriesFirst s.waiting.items s u
     → RetriesAll u.waiting.items u t → RetriesAll s.waiting.items s t
 retried s u t first others = more_retried s.waiting.items s u t refl first others
 
 -- one fewer waits
-fewer : (waiting : List ℕ) (s u : Connections) → RetriesFirst waiting s u → 0 < length waiting
+fewer : {J : Type 0} → (waiting : List ℕ) (s u : Connections J) → RetriesFirst waiting s u → 0 < length waiting
     → length u.waiting.items + 1 ≡ length waiting
 fewer [] s u first some = absurd (omega (arith, some))
 fewer (key ∷ keys) s u first some =
     let left : length u.waiting.items ≡ length keys = ap length first.0 in omega (arith, left)
 
-pub one_fewer : (s u : Connections) → RetriesFirst s.waiting.items s u
+pub one_fewer : {J : Type 0} → (s u : Connections J) → RetriesFirst s.waiting.items s u
     → 0 < length s.waiting.items → length u.waiting.items + 1 ≡ length s.waiting.items
 one_fewer s u first some = fewer s.waiting.items s u first some
 
 -- where none waits nothing changes
-pub none_retried : (s : Connections) → s.waiting.items ≡ [] → RetriesAll s.waiting.items s s
+pub none_retried : {J : Type 0} → (s : Connections J) → s.waiting.items ≡ [] → RetriesAll s.waiting.items s s
 none_retried s none = subst (λ ws. RetriesAll ws s s) (sym none) (refl, refl)
 
 pub no_key : (keys : List ℕ) → length keys ≡ 0 → keys ≡ []
@@ -140,21 +140,21 @@ no_key [] none = refl
 no_key (key ∷ keys) none = absurd (omega (arith, none))
 
 -- a source was told something, and was not to be written
-pub told_pushed : (s t : Connections) (key : ℕ) (was is : OpenConnection) (more : Bool)
+pub told_pushed : {J : Type 0} → (s t : Connections J) (key : ℕ) (was is : OpenConnection J) (more : Bool)
     → slots.get s.opened key ≡ Some was → t.opened ≡ slots.with_value s.opened key is
     → (is_source was.connection ≡ true
     → (more ≡ not was.is_writable) × (is.is_writable ≡ true))
     → (is_source was.connection ≡ false → more ≡ false) → more ≡ true
     → Queues (Some false) key (deque_capacity s.writable) s.writable.items t.writable.items
     → IsWritten (connection_at s key) key s t
-told_pushed s t key was is more there new source stays is_more put =
+told_pushed {J} s t key was is more there new source stays is_more put =
     subst (λ o. IsWritten o key s t) (sym (ap connection_in there)) (by was.connection refl)
   where
     was_not : (b : Bool) → true ≡ not b → b ≡ false
     was_not false e = refl
     was_not true e = cc
 
-    by : (connection : Peer) → was.connection ≡ connection → IsWritten (Some connection) key s t
+    by : (connection : Peer J) → was.connection ≡ connection → IsWritten (Some connection) key s t
     by (kind.Source peer) e =
         let told = source (ap is_source e) in (
           ap (option_map (λ o. o.is_writable))
@@ -171,19 +171,19 @@ told_pushed s t key was is more there new source stays is_more put =
         both e = cc
 
 -- or it was, or a monitor stands there
-pub told_stays : (s t : Connections) (key : ℕ) (was is : OpenConnection) (more : Bool)
+pub told_stays : {J : Type 0} → (s t : Connections J) (key : ℕ) (was is : OpenConnection J) (more : Bool)
     → slots.get s.opened key ≡ Some was → t.opened ≡ slots.with_value s.opened key is
     → (is_source was.connection ≡ true
     → (more ≡ not was.is_writable) × (is.is_writable ≡ true))
     → more ≡ false → t.writable ≡ s.writable → IsWritten (connection_at s key) key s t
-told_stays s t key was is more there new source no_more same =
+told_stays {J} s t key was is more there new source no_more same =
     subst (λ o. IsWritten o key s t) (sym (ap connection_in there)) (by was.connection refl)
   where
     was_so : (b : Bool) → false ≡ not b → b ≡ true
     was_so true e = refl
     was_so false e = cc
 
-    by : (connection : Peer) → was.connection ≡ connection → IsWritten (Some connection) key s t
+    by : (connection : Peer J) → was.connection ≡ connection → IsWritten (Some connection) key s t
     by (kind.Source peer) e =
         let told = source (ap is_source e) in (
           ap (option_map (λ o. o.is_writable))
@@ -198,7 +198,7 @@ told_stays s t key was is more there new source no_more same =
     by (kind.Monitor monitor) e = same
 
 -- whether a source is asked again does not hang on who waits
-asked_by : (flag : Option Bool) (s m t : Connections) (key : ℕ) → m.opened ≡ s.opened
+asked_by : {J : Type 0} → (flag : Option Bool) (s m t : Connections J) (key : ℕ) → m.opened ≡ s.opened
     → m.ready ≡ s.ready → IsAsked flag key m t → IsAsked flag key s t
 asked_by None s m t key opened ready asked = (asked.0 ∙ opened, asked.1 ∙ ready)
 asked_by (Some false) s m t key opened ready asked =
@@ -214,7 +214,7 @@ asked_by (Some true) s m t key opened ready asked = (
 )
 
 -- the first of those that wait is taken out, and asked again
-pub first_retried : (s m t : Connections) (key : ℕ) → s.waiting.items ≡ key ∷ m.waiting.items
+pub first_retried : {J : Type 0} → (s m t : Connections J) (key : ℕ) → s.waiting.items ≡ key ∷ m.waiting.items
     → m.opened ≡ s.opened → m.ready ≡ s.ready → t.waiting ≡ m.waiting → Retries key m t
     → RetriesFirst s.waiting.items s t
 first_retried s m t key items opened ready kept again =
@@ -226,7 +226,7 @@ first_retried s m t key items opened ready kept again =
     )
 
 -- none waits
-pub none_first : (s t : Connections) → s.waiting.items ≡ [] → t.waiting.items ≡ []
+pub none_first : {J : Type 0} → (s t : Connections J) → s.waiting.items ≡ [] → t.waiting.items ≡ []
     → t.opened ≡ s.opened → t.ready ≡ s.ready → RetriesFirst s.waiting.items s t
 none_first s t none left opened ready =
     subst (λ ws. RetriesFirst ws s t) (sym none) (left, opened, ready)

@@ -1,5 +1,5 @@
 -- Requests that are admitted one after the other, and one that is refused.
-use Rattle.std.proofs.Common.{arith, ◌≡◌, ◌≢◌, ◌<◌, ◌≤◌, ◌+◌, ℕ, zero, suc, Bool, true, false, true≢false, nat_lt, List, [], ◌∷◌, ◌++◌, Some, None, Result, Ok, Err, IfErr, IsErrAnd, inl, inr, length, get_or, refl, sym, ap, subst, ◌∙◌}
+use Rattle.std.proofs.Common.{arith, ◌≡◌, ◌≢◌, ◌<◌, ◌≤◌, ◌+◌, ℕ, zero, suc, Bool, true, false, true≢false, ◌⊎◌, nat_lt, List, [], ◌∷◌, ◌++◌, Some, None, Result, Ok, Err, IfErr, IsErrAnd, inl, inr, length, get_or, refl, sym, ap, subst, ◌∙◌}
 use Rattle.std.specs.Prelude.{slice_set, if◌then◌else◌}
 use Rattle.std.specs.List.{slice_get}
 use Rattle.std.specs.Option.{option_and_then}
@@ -8,13 +8,14 @@ use Rattle.std.proofs.lemmas.Bool.Decides.{nat_tests}
 use Rattle.fwd_book.specs.declared.refusal.AdmitRefusal.TheVariants as refusal
 use Rattle.fwd_modes.specs.Requests.{Request}
 use Rattle.fwd_modes.specs.declared.origin.Origin.{Origin}
-use Rattle.fwd_peers.specs.Peers.{PeerShown, Gives, end_by, first_route, sized}
+use Rattle.fwd_book.specs.declared.refusal.AdmitRefusal.{AdmitRefusal}
+use Rattle.fwd_peers.specs.Peers.{PeerShown, Gives, GivesInVain, end_by, first_route, sized}
 use Rattle.fwd_peers.specs.declared.peer_state.PeerState.TheVariants as stage
 use Rattle.fwd_peers.specs.declared.close_reason.CloseReason.{CloseReason}
 use Rattle.fwd_peers.specs.declared.close_reason.CloseReason.TheVariants as close_reason
 use Rattle.fwd_reader.specs.declared.open_tickets.OpenTickets.{OpenTickets}
 use Rattle.fwd_reader.specs.declared.output_route.OutputRoute.{OutputRoute}
-use Rattle.fwd_reader.specs.Admissions.{Admits, AdmitsAll, AdmitsAndRefuses, AdmitsAndWaits, AdmitsEach, IsDeclined, Refuses}
+use Rattle.fwd_reader.specs.Admissions.{Admits, AdmitsAll, AdmitsAndRefuses, AdmitsAndWaits, AdmitsEach, IsDeclined, IsTurnedAway, Refuses}
 use Rattle.fwd_reader.specs.OpenTickets.{AreAllSame, AreSame}
 use Rattle.fwd_reader.specs.Routers.{RouterShown, stores_of}
 use Rattle.fwd_reader.specs.Stores.{IsSame, Stored}
@@ -185,33 +186,19 @@ no_route o s none = record {
   owed = refl;
 }
 
--- there is no room for its acknowledgement
-pub no_room : (o : RouterShown) (s t : PeerShown) (number : ℕ)
-    → Some number ≡ first_route o.routes s → Gives s None t
-    → Refuses o s (close_reason.Refused number refusal.Memory) o t
-no_room o s t number named gives = record {
-  reason = inr (inl (number, (sym named, refl, gives)));
-  same = all_same o.stores;
-  owed = refl;
-}
+-- it stays, or was given in vain
+pub turned_away : (s t : PeerShown) (reason : AdmitRefusal)
+    → ((reason ≡ refusal.Memory) × Gives s None t) ⊎ ((asked : Origin × Request) × GivesInVain s asked t)
+    → IsTurnedAway s reason t
+turned_away s t reason (inl waits) = inl waits
+turned_away s t reason (inr vain) = inr (vain.0, inl vain.1)
 
 -- its output does not take it
-pub declined : (o p : RouterShown) (s t : PeerShown) (number : ℕ) (asked : Origin × Request)
-    (why : CloseReason) → Some number ≡ first_route o.routes s → Gives s (Some asked) t
-    → IsDeclined o.stores number why → AreAllSame o.stores p.stores → p.owed ≡ o.owed
-    → Refuses o s why p t
-declined o p s t number asked why named gives is same owed = record {
-  reason = inr (inr (
-    asked,
-    (
-      number,
-      (
-        gives,
-        sym (named ∙ ap (option_and_then (λ a. route o.routes a.1.tag)) gives.0),
-        is,
-      ),
-    ),
-  ));
+pub declined : (o p : RouterShown) (s t : PeerShown) (number : ℕ) (why : CloseReason)
+    → Some number ≡ first_route o.routes s → IsDeclined o.stores number s why t
+    → AreAllSame o.stores p.stores → p.owed ≡ o.owed → Refuses o s why p t
+declined o p s t number why named is same owed = record {
+  reason = inr (number, (sym named, is));
   same = same;
   owed = owed;
 }

@@ -9,13 +9,22 @@ use Rattle.fwd_history.specs.Histories.{Comes}
 use Rattle.fwd_match.specs.Patterns.{route}
 use Rattle.fwd_book.specs.History.{BookSetting}
 use Rattle.fwd_book.specs.Receipts.{Receipt}
-use Rattle.fwd_output.specs.RunEvents.{RunEvent, AreGivenAfter}
+use Rattle.fwd_output.specs.Paged.{AreGivenAfter}
+use Rattle.fwd_run.specs.Runs.{RunEvent}
 use Rattle.fwd_output.specs.Tickets.{Ticket, IsRight, ticket_of}
 use Rattle.fwd_reader.specs.Stores.{Stored, Held, held_in, AreHeld, IsSame, IsKept, IsSettled, FindsLeast, Looks, HandsOver, with_ticket, with_due, none_kept, last_chunk}
 use Rattle.fwd_reader.specs.declared.open_tickets.OpenTickets.{OpenTickets}
 use Rattle.fwd_reader.specs.OpenTickets.{AreSame, AreAllDue, Keeps}
 use Rattle.fwd_reader.specs.Collections.{AreGiven, AreGivenFor, ComeBack, IsHandedIn, IsRefused, AreHandedIn, AreRefused}
-use Rattle.fwd_reader.specs.Promises.{IsRouted, AreRouted, HoldsRouted, IsGivenIn, IsPromised}
+use Rattle.fwd_reader.specs.Promises.{IsRouted, AreRouted, HoldsRouted, IsDeliveredTo, IsPromised}
+use Rattle.fwd_reader.specs.Tellings.{Sources}
+
+-- of the receipts that an output gives after a history the requests were delivered, where their
+-- sources stand
+abbrev pub AreDelivered : (past before : List RunEvent) → Sources → List Receipt → Type 0
+AreDelivered past before stands rs =
+    (setting : BookSetting) → AreGivenAfter before setting rs
+    → All (IsDeliveredTo past setting.output stands) rs
 
 module _ (routes : List (List (List ℕ))) where
   abbrev Routed : List Ticket → Type 0
@@ -129,47 +138,32 @@ module _ (routes : List (List (List ℕ))) where
         late = All-append (IsRouted routes) s.late tickets all.late come;
       })
 
-  -- receipts that an output gives after a history are given there
-  given_there : (past before : List RunEvent) (setting : BookSetting) (rs : List Receipt)
-      → AreGivenAfter before setting rs → Comes before past
-      → All (IsGivenIn past setting.output) rs
-  given_there past before setting rs given begins =
-      All-weaker (Contains rs) (IsGivenIn past setting.output)
-      (λ r at. record {
-        before = before;
-        begins = begins;
-        history = given.history;
-        at = given.at;
-        origins = given.origins;
-        given = subst (λ gs. Contains gs r) given.is at;
-      })
-      rs (All-contains_itself rs)
-
-  -- receipts for tickets that are of the first output for their tags, which that output gives
-  promised : (past : List RunEvent) (setting own : BookSetting) (rs : List Receipt)
+  -- receipts for tickets that are of the first output for their tags, whose requests were delivered
+  -- to that output's next hop, where their sources stand
+  promised : (past : List RunEvent) (stands : Sources) (setting own : BookSetting) (rs : List Receipt)
       → Routed (map (ticket_of setting) rs) → All (λ r. IsRight r (ticket_of setting r)) rs
-      → Routed (map (ticket_of own) rs) → All (IsGivenIn past own.output) rs
-      → All (IsPromised routes past) rs
-  promised past setting own [] of right of_own given = All-nil (IsPromised routes past)
-  promised past setting own (r ∷ rs) of right of_own given =
+      → Routed (map (ticket_of own) rs) → All (IsDeliveredTo past own.output stands) rs
+      → All (IsPromised routes past stands) rs
+  promised past stands setting own [] of right of_own given = All-nil (IsPromised routes past stands)
+  promised past stands setting own (r ∷ rs) of right of_own given =
       let here : route routes r.tag ≡ Some setting.output =
       All-head (IsRouted routes) (ticket_of setting r) (map (ticket_of setting) rs) of in
       let there : route routes r.tag ≡ Some own.output =
       All-head (IsRouted routes) (ticket_of own r) (map (ticket_of own) rs) of_own in
-      All-cons (IsPromised routes past) r rs
+      All-cons (IsPromised routes past stands) r rs
       (record {
         setting = setting;
         routed = here;
         right = All-head (λ q. IsRight q (ticket_of setting q)) r rs right;
-        given = subst (λ n. IsGivenIn past n r)
+        delivered = subst (λ n. IsDeliveredTo past n stands r)
             (same_Some own.output setting.output (sym there ∙ here))
-            (All-head (IsGivenIn past own.output) r rs given);
+            (All-head (IsDeliveredTo past own.output stands) r rs given);
       })
-      (promised past setting own rs
+      (promised past stands setting own rs
       (All-tail (IsRouted routes) (ticket_of setting r) (map (ticket_of setting) rs) of)
       (All-tail (λ q. IsRight q (ticket_of setting q)) r rs right)
       (All-tail (IsRouted routes) (ticket_of own r) (map (ticket_of own) rs) of_own)
-      (All-tail (IsGivenIn past own.output) r rs given))
+      (All-tail (IsDeliveredTo past own.output stands) r rs given))
 
   -- tickets of a store are handed in
   handed_in : (s t : Stored) (rs : List Receipt) (is : IsHandedIn s rs t) → AreRouted routes (held_in s)
@@ -191,14 +185,15 @@ module _ (routes : List (List (List ℕ))) where
       (map (ticket_of is.setting) rs ++ is.back) is.each over.0 in
       front (map (ticket_of is.setting) rs) is.back each
 
-  -- these are as promised
-  all_promised : (past before : List RunEvent) (s t u : Stored) (rs : List Receipt) → IsHandedIn s rs t
-      → AreGivenFor before u rs → Comes before past → AreRouted routes (held_in s)
-      → AreRouted routes (held_in u) → All (IsPromised routes past) rs
-  all_promised past before s t u rs is given begins all others =
-      promised past is.setting given.setting rs (handed_in s t rs is all).0 is.right
+  -- where the requests were delivered of what an output gives, these are as promised
+  all_promised : (past before : List RunEvent) (stands : Sources) (s t u : Stored) (rs : List Receipt)
+      → AreDelivered past before stands rs → IsHandedIn s rs t → AreGivenFor before u rs
+      → AreRouted routes (held_in s) → AreRouted routes (held_in u)
+      → All (IsPromised routes past stands) rs
+  all_promised past before stands s t u rs delivered is given all others =
+      promised past stands is.setting given.setting rs (handed_in s t rs is all).0 is.right
       (given_for before u rs given others)
-      (given_there past before given.setting rs given.given begins)
+      (delivered given.setting given.given)
 
   -- memory was refused
   refused : (s t : Stored) → IsRefused s t → AreRouted routes (held_in s) → AreRouted routes (held_in t)
@@ -261,18 +256,18 @@ module _ (routes : List (List (List ℕ))) where
       ]
 
   -- the receipts for them are as promised
-  pub open_tickets_promised : (past before : List RunEvent) (s t : OpenTickets) (rs : List Receipt)
-      → AreHandedIn s rs t → AreGiven before s rs → Comes before past → HoldsRouted routes s
-      → All (IsPromised routes past) rs
-  open_tickets_promised past before s t rs is given begins all =
+  pub open_tickets_promised : (past before : List RunEvent) (stands : Sources) (s t : OpenTickets)
+      (rs : List Receipt) → AreDelivered past before stands rs → AreHandedIn s rs t
+      → AreGiven before s rs → HoldsRouted routes s → All (IsPromised routes past stands) rs
+  open_tickets_promised past before stands s t rs delivered is given all =
       elim is [
         | inl few ↦ elim given [
-          | inl own ↦ all_promised past before s.few t.few s.few rs few.0 own begins all.few all.few
-          | inr own ↦ all_promised past before s.few t.few s.many rs few.0 own begins all.few all.many
+          | inl own ↦ all_promised past before stands s.few t.few s.few rs delivered few.0 own all.few all.few
+          | inr own ↦ all_promised past before stands s.few t.few s.many rs delivered few.0 own all.few all.many
         ]
         | inr many ↦ elim given [
-          | inl own ↦ all_promised past before s.many t.many s.few rs many.0 own begins all.many all.few
-          | inr own ↦ all_promised past before s.many t.many s.many rs many.0 own begins all.many all.many
+          | inl own ↦ all_promised past before stands s.many t.many s.few rs delivered many.0 own all.many all.few
+          | inr own ↦ all_promised past before stands s.many t.many s.many rs delivered many.0 own all.many all.many
         ]
       ]
 

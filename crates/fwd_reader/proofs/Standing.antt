@@ -18,13 +18,13 @@ use Rattle.fwd_reader.specs.Queues.{put_at, with_changed}
 use Rattle.fwd_reader.specs.Tellings.{sources_without}
 
 -- another connection stands at a key
-pub updated : (opened : slots.Slab OpenConnection) (key : ℕ) (was is : OpenConnection)
+pub updated : {J : Type 0} → (opened : slots.Slab (OpenConnection J)) (key : ℕ) (was is : OpenConnection J)
     → slots.get opened key ≡ Some was
     → slots.Updates opened (slots.with_value opened key is) key (Some is)
 updated opened key was is there = Updates-with_value opened key is (subst IsSome (sym there) refl)
 
 -- the connection at each key stays where that at one key does
-stays_at : (opened : slots.Slab OpenConnection) (key : ℕ) (was is : OpenConnection)
+stays_at : {J : Type 0} → (opened : slots.Slab (OpenConnection J)) (key : ℕ) (was is : OpenConnection J)
     → slots.get opened key ≡ Some was → is.connection ≡ was.connection → (k : ℕ)
     → connections_in (slots.with_value opened key is) k ≡ connections_in opened k
 stays_at opened key was is there same k = by (k == key) refl
@@ -40,17 +40,17 @@ stays_at opened key was is there same k = by (k == key) refl
         ap connection_in ((updated opened key was is there).others k (eqb-false k key e))
 
 -- the source of an id, if a connection is that
-source_of : ℕ → Option Peer → Option PeerShown
+source_of : {J : Type 0} → ℕ → Option (Peer J) → Option PeerShown
 source_of id None = None
 source_of id (Some connection) = source_with id connection
 
 -- it is that of the connection alone
-is_of : (id : ℕ) (o : Option OpenConnection) → source_in id o ≡ source_of id (connection_in o)
+is_of : {J : Type 0} → (id : ℕ) (o : Option (OpenConnection J)) → source_in id o ≡ source_of id (connection_in o)
 unfolding source_of
 is_of id None = refl
 is_of id (Some opened) = refl
 
-under : (opened : slots.Slab OpenConnection) (key : ℕ) (was is : OpenConnection)
+under : {J : Type 0} → (opened : slots.Slab (OpenConnection J)) (key : ℕ) (was is : OpenConnection J)
     → slots.get opened key ≡ Some was → is.connection ≡ was.connection → (id : ℕ) (k : Option ℕ)
     → source_under (slots.with_value opened key is) id k ≡ source_under opened id k
 under opened key was is there same id None = refl
@@ -59,35 +59,35 @@ under opened key was is there same id (Some k) =
     ∙ ap (source_of id) (stays_at opened key was is there same k) ∙ sym (is_of id (slots.get opened k))
 
 -- what stands at a key changes, but for the connection itself: the same sources stand
-pub flags_change : (keys : tree.BTreeMap ℕ ℕ) (opened : slots.Slab OpenConnection) (key : ℕ)
-    (was is : OpenConnection) → slots.get opened key ≡ Some was → is.connection ≡ was.connection
+pub flags_change : {J : Type 0} → (keys : tree.BTreeMap ℕ ℕ) (opened : slots.Slab (OpenConnection J)) (key : ℕ)
+    (was is : OpenConnection J) → slots.get opened key ≡ Some was → is.connection ≡ was.connection
     → source_at keys (slots.with_value opened key is) ≡ source_at keys opened
 flags_change keys opened key was is there same =
     λ i id. under opened key was is there same id (tree.get nat_cmp keys id) i
 
 -- so do the same connections
-pub all_stay : (opened : slots.Slab OpenConnection) (key : ℕ) (was is : OpenConnection)
+pub all_stay : {J : Type 0} → (opened : slots.Slab (OpenConnection J)) (key : ℕ) (was is : OpenConnection J)
     → slots.get opened key ≡ Some was → is.connection ≡ was.connection
     → connections_in (slots.with_value opened key is) ≡ connections_in opened
 all_stay opened key was is there same = λ i k. stays_at opened key was is there same k i
 
 -- what stands at a key became what the change makes of it
-pub changed : (opened : slots.Slab OpenConnection) (key : ℕ) (was is : OpenConnection)
-    (change : OpenConnection → OpenConnection) → slots.get opened key ≡ Some was → is ≡ change was
+pub changed : {J : Type 0} → (opened : slots.Slab (OpenConnection J)) (key : ℕ) (was is : OpenConnection J)
+    (change : OpenConnection J → OpenConnection J) → slots.get opened key ≡ Some was → is ≡ change was
     → slots.with_value opened key is ≡ with_changed opened key change
 changed opened key was is change there same =
     ap (slots.with_value opened key) same
     ∙ sym (ap (λ o. put_at opened key (option_map change o)) there)
 
 -- nothing stands there
-pub none_changed : (opened : slots.Slab OpenConnection) (key : ℕ)
-    (change : OpenConnection → OpenConnection) → slots.get opened key ≡ None
+pub none_changed : {J : Type 0} → (opened : slots.Slab (OpenConnection J)) (key : ℕ)
+    (change : OpenConnection J → OpenConnection J) → slots.get opened key ≡ None
     → opened ≡ with_changed opened key change
 none_changed opened key change none =
     sym (ap (λ o. put_at opened key (option_map change o)) none)
 
 -- a connection went
-pub gone : (s t : slots.Slab OpenConnection) (key : ℕ) → slots.Updates s t key None
+pub gone : {J : Type 0} → (s t : slots.Slab (OpenConnection J)) (key : ℕ) → slots.Updates s t key None
     → connections_in t ≡ without key (connections_in s)
 gone s t key went = λ i k. by k (k == key) refl i
   where
@@ -99,14 +99,14 @@ gone s t key went = λ i k. by k (k == key) refl i
     by k false e = ap connection_in (went.others k (eqb-false k key e))
 
 -- a connection that has another id, or none, is no source of this one
-no_source : (id : ℕ) (connection : Peer) (o : Option ℕ) → source_id connection ≡ o
+no_source : {J : Type 0} → (id : ℕ) (connection : Peer J) (o : Option ℕ) → source_id connection ≡ o
     → ((gone : ℕ) → o ≡ Some gone → (gone == id) ≡ false) → source_with id connection ≡ None
 no_source id (kind.Monitor monitor) o is apart = refl
 no_source id (kind.Source source) o is apart =
     ap (λ b. if b then Some source else None) (apart source.id (sym is))
 
 -- the source of an id under a key, where the connection at one key went that has not this id
-under_gone : (s t : slots.Slab OpenConnection) (key : ℕ) (was : OpenConnection) (id : ℕ)
+under_gone : {J : Type 0} → (s t : slots.Slab (OpenConnection J)) (key : ℕ) (was : OpenConnection J) (id : ℕ)
     → slots.get s key ≡ Some was → slots.Updates s t key None
     → source_with id was.connection ≡ None → (o : Option ℕ)
     → source_under t id o ≡ source_under s id o
@@ -146,8 +146,8 @@ not_found : (gone id : ℕ) → (gone == id) ≡ false → tree.is_at (nat_cmp g
 not_found gone id e = unequal (nat_lt gone id) (gone == id) e
 
 -- a source went, from its key and from the table of ids
-pub source_gone : (keys after : tree.BTreeMap ℕ ℕ) (s t : slots.Slab OpenConnection) (key : ℕ)
-    (was : OpenConnection) (id : ℕ) → slots.get s key ≡ Some was
+pub source_gone : {J : Type 0} → (keys after : tree.BTreeMap ℕ ℕ) (s t : slots.Slab (OpenConnection J)) (key : ℕ)
+    (was : OpenConnection J) (id : ℕ) → slots.get s key ≡ Some was
     → source_id was.connection ≡ Some id
     → tree.UpdatesBy nat_cmp (nat_cmp id) keys after None → slots.Updates s t key None
     → source_at after t ≡ sources_without (Some id) (source_at keys s)
@@ -169,8 +169,8 @@ source_gone keys after s t key was id there own taken went = λ i other. by othe
         (tree.get nat_cmp keys other)
 
 -- a monitor went
-pub monitor_gone : (keys : tree.BTreeMap ℕ ℕ) (s t : slots.Slab OpenConnection) (key : ℕ)
-    (was : OpenConnection) → slots.get s key ≡ Some was → source_id was.connection ≡ None
+pub monitor_gone : {J : Type 0} → (keys : tree.BTreeMap ℕ ℕ) (s t : slots.Slab (OpenConnection J)) (key : ℕ)
+    (was : OpenConnection J) → slots.get s key ≡ Some was → source_id was.connection ≡ None
     → slots.Updates s t key None → source_at keys t ≡ source_at keys s
 monitor_gone keys s t key was there none went =
     λ i id. under_gone s t key was id there went

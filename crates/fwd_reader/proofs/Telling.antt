@@ -1,6 +1,6 @@
 -- Telling a receipt to the one that it is for.
 use Rattle.std.proofs.Common.{◌≡◌, ◌<◌, ℕ, Bool, true, false, List, ◌∷◌, Option, Some, None, inl, inr, length, drop, get_or, ◌+◌, ◌≤◌, refl, sym, ap, subst, ◌∙◌}
-use Rattle.std.specs.Prelude.{◌==◌, if◌then◌else◌, IsSome}
+use Rattle.std.specs.Prelude.{◌==◌, if◌then◌else◌, is_some, IsSome}
 use Rattle.std.specs.Option.{option_map}
 use Rattle.std.specs.Ordering.{nat_cmp}
 use Rattle.std.specs.BTreeMap as tree
@@ -51,6 +51,14 @@ told_alone s t receipt told id =
 pub stays : (receipt : Receipt) (id : ℕ) → IsToldAt id receipt None None
 stays receipt id = refl
 
+-- a source that stands under an id has that id
+pub own_id : (s : PeerShown) (id : ℕ) → is_some (if s.id == id then Some s else None) ≡ true → id ≡ s.id
+own_id s id stands = by (s.id == id) refl stands
+  where
+    by : (b : Bool) → (s.id == id) ≡ b → is_some (if b then Some s else None) ≡ true → id ≡ s.id
+    by true e there = sym (eqb-true s.id id e)
+    by false e there = absurd cc
+
 -- something is not nothing
 some_none : {X : Type 0} {x : X} → Some x ≡ None → ⊥
 some_none e = absurd cc
@@ -71,37 +79,69 @@ untold id receipt (Some s) none = (s, (refl, by (receipt.origin.conn == id) refl
     by false e = refl
 
 -- where no source stands under the receipt's connection, nobody is told
-pub nobody : (c : Connections) (receipt : Receipt) (origin : Origin) → origin ≡ receipt.origin
+pub nobody : {J : Type 0} → (c : Connections J) (receipt : Receipt) (origin : Origin) → origin ≡ receipt.origin
     → sources_in c origin.conn ≡ None → IsToldOf (sources_in c) receipt (sources_in c)
 nobody c receipt origin same none id =
     untold id receipt (sources_in c id) (λ e. subst (λ k. sources_in c k ≡ None)
     (ap (λ o. o.conn) same ∙ eqb-true receipt.origin.conn id e) none)
 
-pub no_key : (c : Connections) (receipt : Receipt) (origin : Origin) → origin ≡ receipt.origin
+pub no_key : {J : Type 0} → (c : Connections J) (receipt : Receipt) (origin : Origin) → origin ≡ receipt.origin
     → tree.get nat_cmp c.sources origin.conn ≡ None
     → IsToldOf (sources_in c) receipt (sources_in c)
 no_key c receipt origin same none =
     nobody c receipt origin same (ap (source_under c.opened origin.conn) none)
 
-pub no_slot : (c : Connections) (receipt : Receipt) (origin : Origin) (key : ℕ)
+pub no_slot : {J : Type 0} → (c : Connections J) (receipt : Receipt) (origin : Origin) (key : ℕ)
     → origin ≡ receipt.origin → tree.get nat_cmp c.sources origin.conn ≡ Some key
     → slots.get c.opened key ≡ None → IsToldOf (sources_in c) receipt (sources_in c)
 no_slot c receipt origin key same found none =
     nobody c receipt origin same
     (ap (source_under c.opened origin.conn) found ∙ ap (source_in origin.conn) none)
 
+-- who stands under the receipt's connection is the one at its key
+same_here : {J : Type 0} → (c : Connections J) (receipt : Receipt) (origin : Origin) (o : Option ℕ) (s : Option (OpenConnection J))
+    → origin ≡ receipt.origin → tree.get nat_cmp c.sources origin.conn ≡ o
+    → source_under c.opened receipt.origin.conn o ≡ source_in receipt.origin.conn s
+    → sources_in c receipt.origin.conn ≡ source_in receipt.origin.conn s
+same_here c receipt origin o s same found there =
+    ap (λ (k : Origin). source_under c.opened receipt.origin.conn (tree.get nat_cmp c.sources k.conn)) (sym same)
+    ∙ ap (source_under c.opened receipt.origin.conn) found ∙ there
+
+pub stands_there : {J : Type 0} → (c : Connections J) (receipt : Receipt) (origin : Origin) (key : ℕ) (was : OpenConnection J)
+    → origin ≡ receipt.origin → tree.get nat_cmp c.sources origin.conn ≡ Some key → slots.get c.opened key ≡ Some was
+    → is_some (sources_in c receipt.origin.conn) ≡ true → is_some (source_with receipt.origin.conn was.connection) ≡ true
+stands_there c receipt origin key was same found there stands =
+    sym (ap is_some (same_here c receipt origin (Some key) (Some was) same found (ap (source_in receipt.origin.conn) there))) ∙ stands
+
+false_true : false ≡ true → ⊥
+false_true e = cc
+
+none_true : (x : Option PeerShown) → x ≡ None → is_some x ≡ true → ⊥
+none_true x none stands = false_true (sym (ap is_some none) ∙ stands)
+
+pub none_stands : {J : Type 0} → (c : Connections J) (receipt : Receipt) (origin : Origin) → origin ≡ receipt.origin
+    → tree.get nat_cmp c.sources origin.conn ≡ None → is_some (sources_in c receipt.origin.conn) ≡ true → ⊥
+none_stands c receipt origin same none stands =
+    none_true (sources_in c receipt.origin.conn) (same_here c receipt origin None None same none refl) stands
+
+pub no_slot_stands : {J : Type 0} → (c : Connections J) (receipt : Receipt) (origin : Origin) (key : ℕ) → origin ≡ receipt.origin
+    → tree.get nat_cmp c.sources origin.conn ≡ Some key → slots.get c.opened key ≡ None
+    → is_some (sources_in c receipt.origin.conn) ≡ true → ⊥
+no_slot_stands c receipt origin key same found none stands =
+    none_true (sources_in c receipt.origin.conn) (same_here c receipt origin (Some key) None same found (ap (source_in receipt.origin.conn) none)) stands
+
 -- what is told under the key of the receipt's connection is told to that one alone
-pub told_there : (c : Connections) (receipt : Receipt) (origin : Origin) (key : ℕ)
-    (was is : OpenConnection) → origin ≡ receipt.origin
+pub told_there : {J : Type 0} → (c : Connections J) (receipt : Receipt) (origin : Origin) (key : ℕ)
+    (was is : OpenConnection J) → origin ≡ receipt.origin
     → tree.get nat_cmp c.sources origin.conn ≡ Some key → slots.get c.opened key ≡ Some was
     → ((id : ℕ) → IsToldAt id receipt (source_with id was.connection)
     (source_with id is.connection))
     → IsToldOf (sources_in c) receipt
     (source_at c.sources (slots.with_value c.opened key is))
-told_there c receipt origin key was is same found there told id =
+told_there {J} c receipt origin key was is same found there told id =
     by (tree.get nat_cmp c.sources id) refl
   where
-    with_it : slots.Slab OpenConnection
+    with_it : slots.Slab (OpenConnection J)
     with_it = slots.with_value c.opened key is
 
     updated : slots.Updates c.opened with_it key (Some is)

@@ -9,7 +9,7 @@ use Rattle.fwd_modes.specs.declared.origin.Origin.{Origin}
 use Rattle.fwd_book.specs.declared.refusal.AdmitRefusal.{AdmitRefusal}
 use Rattle.fwd_book.specs.declared.refusal.AdmitRefusal.TheVariants as refusal
 use Rattle.fwd_peers.specs.Costs.{upkeep}
-use Rattle.fwd_peers.specs.Peers.{PeerShown, Gives, end_by, first_route, sized}
+use Rattle.fwd_peers.specs.Peers.{PeerShown, Gives, GivesInVain, end_by, first_route, sized}
 use Rattle.fwd_peers.specs.declared.close_reason.CloseReason.{CloseReason}
 use Rattle.fwd_peers.specs.declared.close_reason.CloseReason.TheVariants as close_reason
 use Rattle.fwd_peers.specs.declared.peer_state.PeerState.TheVariants as stage
@@ -52,25 +52,29 @@ pub record Admits (o : RouterShown) (s : PeerShown) (p : RouterShown) (t : PeerS
   pub owed : p.owed ≡ owes_more number (upkeep asked.1.tag asked.1.chunk) o.owed
   pub routes : p.routes ≡ o.routes
 
--- The output of this number did not take a request that it was handed, and why its source is
--- closed: for the output's reason; or no output stands there.
-abbrev pub IsDeclined : List OpenTickets → (number : ℕ) → CloseReason → Type 0
-IsDeclined stores number why =
-    ((reason : AdmitRefusal) × (why ≡ close_reason.Refused number reason))
-    ⊎ ((slice_get stores number ≡ None) × (why ≡ close_reason.NoRoute))
+-- What a source is whose first request an output does not take for a reason. There is no room for
+-- its acknowledgement, when out of memory: it waits still. Or it was given: it was refused, or its
+-- ticket could not be kept.
+abbrev pub IsTurnedAway : PeerShown → AdmitRefusal → PeerShown → Type 0
+IsTurnedAway s reason t =
+    ((reason ≡ refusal.Memory) × Gives s None t)
+    ⊎ ((asked : Origin × Request) × (GivesInVain s asked t ⊎ Gives s (Some asked) t))
+
+-- The output of this number did not take the first request that waits at a source, and this is why
+-- the source is closed, and what it is then: it is for the output's reason; or no output stands
+-- there, and it waits still.
+abbrev pub IsDeclined : List OpenTickets → (number : ℕ) → PeerShown → CloseReason → PeerShown → Type 0
+IsDeclined stores number s why t =
+    ((reason : AdmitRefusal) × ((why ≡ close_reason.Refused number reason) × IsTurnedAway s reason t))
+    ⊎ ((slice_get stores number ≡ None) × (why ≡ close_reason.NoRoute) × (t ≡ s))
 
 -- Why the first request that waits at a source is refused, and what the source is then. The routes
--- name no output for its tag: it waits still. There is no room for its acknowledgement, when out of
--- memory: it does so too. Or it was given, and the output that the routes name first for its tag
--- did not take it.
+-- name no output for its tag: it waits still. Or the output that they name first did not take it.
 abbrev pub IsRefusedFor : (routes : List (List (List ℕ))) → List OpenTickets → PeerShown → CloseReason
     → PeerShown → Type 0
 IsRefusedFor routes stores s why t =
     ((first_route routes s ≡ None) × (why ≡ close_reason.NoRoute) × (t ≡ s))
-    ⊎ (((number : ℕ) × ((first_route routes s ≡ Some number)
-    × (why ≡ close_reason.Refused number refusal.Memory) × Gives s None t))
-    ⊎ ((asked : Origin × Request) × ((number : ℕ) × (Gives s (Some asked) t
-    × (route routes asked.1.tag ≡ Some number) × IsDeclined stores number why))))
+    ⊎ ((number : ℕ) × ((first_route routes s ≡ Some number) × IsDeclined stores number s why t))
 
 -- the first request that waits at a source is refused for this reason, no output keeps a ticket of
 -- it, and none owes more or less

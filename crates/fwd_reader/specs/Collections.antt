@@ -3,7 +3,8 @@ use Rattle.std.specs.Prelude.{◌≡◌, ◌⊎◌, ◌≤◌, ℕ, true, List, 
 use Rattle.std.specs.List.Sorted.{IsPermutation}
 use Rattle.fwd_book.specs.History.{BookSetting}
 use Rattle.fwd_book.specs.Receipts.{Receipt}
-use Rattle.fwd_output.specs.RunEvents.{RunEvent, AreGivenAfter}
+use Rattle.fwd_output.specs.Paged.{AreGivenAfter}
+use Rattle.fwd_run.specs.Runs.{RunEvent}
 use Rattle.fwd_output.specs.Tickets.{Ticket, IsRight, ticket_of}
 use Rattle.fwd_reader.specs.Stores.{Stored, HandsOver, IsQuiet, Looks}
 use Rattle.fwd_reader.specs.declared.open_tickets.OpenTickets.{OpenTickets}

@@ -1,13 +1,12 @@
 -- What is promised of each receipt that a source is told of: it is right for its request, at the
--- output that the routes name first for the request's tag, which gives it in the run's history.
-use Rattle.std.specs.Prelude.{◌≡◌, ℕ, List, Some, All, Contains}
+-- output that the routes name first for the request's tag, and by the run's history the request was
+-- delivered to that output's next hop.
+use Rattle.std.specs.Prelude.{◌≡◌, ℕ, true, List, Some, All, is_some}
 use Rattle.fwd_match.specs.Patterns.{route}
-use Rattle.fwd_history.specs.Histories.{Comes}
-use Rattle.fwd_modes.specs.declared.origin.Origin.{Origin}
-use Rattle.fwd_book.specs.History.{BookSetting, untold}
-use Rattle.fwd_book.specs.Receipts.{Receipt, receipts}
-use Rattle.fwd_output.specs.Outputs.{OutputHistory}
-use Rattle.fwd_output.specs.RunEvents.{RunEvent, output_at}
+use Rattle.fwd_book.specs.History.{BookSetting}
+use Rattle.fwd_book.specs.Receipts.{Receipt}
+use Rattle.fwd_run.specs.Runs.{RunEvent}
+use Rattle.fwd_output.specs.PagedSources.{WasDelivered}
 use Rattle.fwd_output.specs.Tickets.{Ticket, IsRight, ticket_of}
 use Rattle.fwd_reader.specs.Stores.{Held, held_in}
 use Rattle.fwd_reader.specs.declared.open_tickets.OpenTickets.{OpenTickets}
@@ -28,28 +27,24 @@ pub record HoldsRouted (routes : List (List (List ℕ))) (s : OpenTickets) : Typ
   pub few : AreRouted routes (held_in s.few)
   pub many : AreRouted routes (held_in s.many)
 
--- the book of the output of a number gives a receipt after a beginning of a history: its request is
--- owed an answer there, and all entries of that are acknowledged
-pub record IsGivenIn (past : List RunEvent) (output : ℕ) (r : Receipt) : Type 0 where
-  pub before : List RunEvent
-  pub begins : Comes before past
-  pub history : OutputHistory
-  pub at : output_at output before ≡ Some history
-  pub origins : List Origin
-  pub given : Contains (receipts history.book.settled (untold history.book) origins) r
+-- where the source of a receipt stands, the request was delivered to the next hop of the output of a
+-- number, by the history of the run
+abbrev pub IsDeliveredTo : List RunEvent → (output : ℕ) → Sources → Receipt → Type 0
+IsDeliveredTo past output s r = is_some (s r.origin.conn) ≡ true → WasDelivered past output r
 
--- what is promised of a receipt: it is right for its request, at an output, the routes name that
--- output first for its tag, and in the run's history it gives the receipt
-pub record IsPromised (routes : List (List (List ℕ))) (past : List RunEvent) (r : Receipt)
-    : Type 0 where
+-- What is promised of a receipt: it is right for its request, at an output, and the routes name that
+-- output first for its tag. And where its source stands, which is told of it, the request was
+-- delivered to that output's next hop, in the run's one history.
+pub record IsPromised (routes : List (List (List ℕ))) (past : List RunEvent) (stands : Sources)
+    (r : Receipt) : Type 0 where
   pub setting : BookSetting
   pub routed : route routes r.tag ≡ Some setting.output
   pub right : IsRight r (ticket_of setting r)
-  pub given : IsGivenIn past setting.output r
+  pub delivered : IsDeliveredTo past setting.output stands r
 
 -- sources are told of receipts alone of which this is promised, in the history that was reached
 pub record TellsPromised (routes : List (List (List ℕ))) (past : List RunEvent) (s t : Sources)
     : Type 0 where
   pub receipts : List Receipt
   pub told : AreTold s receipts t
-  pub promised : All (IsPromised routes past) receipts
+  pub promised : All (IsPromised routes past s) receipts

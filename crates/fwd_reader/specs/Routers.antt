@@ -1,7 +1,7 @@
 -- What is seen of a router: which tags go to which output, the tickets of each, what each owes, and
 -- the history of the run.
 use Rattle.std.specs.Prelude.{ℕ, List, map}
-use Rattle.fwd_output.specs.RunEvents.{RunEvent}
+use Rattle.fwd_run.specs.Runs.{RunEvent}
 use Rattle.fwd_reader.specs.declared.open_tickets.OpenTickets.{OpenTickets}
 use Rattle.fwd_reader.specs.declared.output_route.OutputRoute.{OutputRoute}
 use Rattle.fwd_reader.specs.Owing.{Ledger}

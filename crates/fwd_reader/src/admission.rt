@@ -143,7 +143,7 @@ impl<'a, J: Run> Admission<'a, J> {
     /// Whether the first request that waits at a source may enter the output of this number. Where
     /// it may not, it waits there from now on.
     #[tactic(auto, using(crate::proofs::Owing::line_stays))]
-    pub fn ask<R: Wait>(&mut self, rt: &R, output: u16, source: &mut SourcePeer) -> bool
+    pub fn ask<R: Wait>(&mut self, rt: &R, output: u16, source: &mut SourcePeer<J>) -> bool
         ensures within { result ≡ true → output < length self.old.outputs.now
             → MayOwe self.old output source.old.owed }
         ensures source { source.new ≡ source.old }
@@ -200,7 +200,7 @@ impl<'a, J: Run> Admission<'a, J> {
 
     /// A source goes: it waits at no output any more, and whoever is next in line may be admitted.
     #[tactic(auto, using(crate::proofs::Owing::line_stays))]
-    pub fn leave<R: Wait>(&mut self, rt: &R, source: &mut SourcePeer)
+    pub fn leave<R: Wait>(&mut self, rt: &R, source: &mut SourcePeer<J>)
         ensures source { source.new ≡ source.old }
         ensures owed { owed_at_each self.new ≡ owed_at_each self.old }
     {

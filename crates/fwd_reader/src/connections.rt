@@ -1,14 +1,30 @@
 //! The connections that stand.
 
-ghost use Rattle.std.specs.Borrow.{sem};
 ghost use Rattle.std.specs.BTreeMap as tree;
-ghost use Rattle.std.specs.Option.{option_copied_mut};
 ghost use Rattle.std.specs.Ordering.{nat_cmp};
-ghost use Rattle.std.specs.Prelude.{◌≡◌, ℕ, Some, false, not, true, IfNone, IfSome};
+ghost use Rattle.std.specs.Prelude.{
+  ◌≡◌,
+  ℕ,
+  List,
+  Some,
+  false,
+  is_some,
+  not,
+  true,
+  All,
+  Contains,
+  IfNone,
+  IfSome,
+};
+ghost use Rattle.fwd_history.specs.Histories.{Comes};
+ghost use Rattle.fwd_book.specs.History.{BookSetting};
+ghost use Rattle.fwd_book.specs.Receipts as book;
+ghost use Rattle.fwd_output.specs.Paged.{AreGivenAfter};
+ghost use Rattle.fwd_output.specs.PagedSources.{WasDelivered};
+ghost use Rattle.fwd_reader.specs.Promises.{IsDeliveredTo};
 ghost use Rattle.fwd_reader.specs.Idling.{IsCrowding, IsIdlest, NoneIsIdle};
 ghost use Rattle.fwd_reader.specs.Idling as idling;
 ghost use Rattle.fwd_reader.specs.Lateness.{IsLate, is_late};
-ghost use Rattle.fwd_reader.specs.Lending.{LendsAt, LendsConnection};
 ghost use Rattle.fwd_reader.specs.OpenConnections.{
   connection_at,
   is_source,
@@ -27,7 +43,9 @@ use crate::admission::EvictionCandidate;
 use crate::deadlines::{Deadlines, Unidentified};
 use crate::peer::{HEAD_LIMIT, LOGIN_LIMIT, Peer};
 use fwd_book::Receipt;
+use fwd_history::Run;
 use fwd_peers::{PeerAddress, SourcePeer};
+use fwd_run::ReachedHistory;
 use mio::{Interest, Registry, Token};
 pub use queues::Ready;
 use slab::Slab;
@@ -41,8 +59,8 @@ const WATCHED: usize = 4_096;
 
 /// A connection that is open.
 #[derive(Drop)]
-pub(crate) struct OpenConnection {
-    connection: Peer,
+pub(crate) struct OpenConnection<J: Run> {
+    connection: Peer<J>,
     /// When it came, in milliseconds.
     came: u64,
     /// It stands in the queue of those that are ready.
@@ -60,15 +78,23 @@ pub(crate) struct OpenConnection {
     is_kept: bool,
 }
 
-impl OpenConnection {
+impl<J: Run> OpenConnection<J> {
+    ghost use Rattle.std.specs.Prelude.{◌≡◌};
+    ghost use Rattle.std.specs.Borrow.{Lends, sem};
+    ghost use Rattle.fwd_reader.specs.contracts.peer.Peer.{the_row as peer_row};
+    ghost use Rattle.fwd_reader.specs.contracts.connections.OpenConnection.{the_row as opened_row};
+
     /// The connection itself.
-    fn connection_mut(&mut self) -> &mut Peer
-        ensures* lends { sem 𝓛 (LendsConnection self.entry result) }
+    fn connection_mut(&mut self) -> &mut Peer<J>
+        ensures* lends { sem 𝓛 (Lends (opened_row J.row J.Run) (peer_row J.row J.Run) self.entry
+            result (λ w. record self.entry.now { connection = w })) }
         ensures value { result.now ≡ self.old.connection }
     {
         &mut self.connection
     }
+}
 
+impl<J: Run> OpenConnection<J> {
     /// Since when it could give its place to a new one (milliseconds), where it is a source and
     /// does not wait to be read: it has been silent, and neither it nor the relay owes the other
     /// anything; or it waits at an output, and sends its request again, since it asked for an
@@ -122,9 +148,21 @@ impl OpenConnection {
     }
 
     /// Tells a receipt to a source, if it is of one of its requests, and says whether it is to
-    /// stand in the queue of those that may be written, where it did not.
-    #[tactic(auto, using(crate::proofs::Telling::told_alone, crate::proofs::Telling::stays))]
-    fn answer(&mut self, receipt: &Receipt) -> bool
+    /// stand in the queue of those that may be written, where it did not. The receipt is among
+    /// those that an output gave after a history of the run, and what is known of that history goes
+    /// on to where the source is known.
+    #[tactic(auto, using(crate::proofs::Telling::told_alone, crate::proofs::Telling::stays, crate::proofs::Told::no_further))]
+    fn answer(
+        &mut self,
+        receipt: &Receipt,
+        given: &ReachedHistory<J>,
+        reached: &mut ReachedHistory<J>,
+    ) -> bool
+        ensures onward { Comes reached.old reached.new }
+        ensures delivered { (setting : BookSetting) (receipts : List book.Receipt) →
+            AreGivenAfter given.now setting receipts → Contains receipts receipt.now →
+            is_some (source_with receipt.now.origin.conn self.old.connection) ≡ true →
+            WasDelivered reached.new setting.output receipt.now }
         ensures told { (id : ℕ) → IsToldAt id receipt.now
             (source_with id self.old.connection) (source_with id self.new.connection) }
         ensures queued { is_source self.old.connection ≡ true
@@ -133,7 +171,10 @@ impl OpenConnection {
             → (result ≡ false) × (self.new ≡ self.old) }
     {
         match &mut self.connection {
-            Peer::Source(source) => source.answer(receipt),
+            Peer::Source(source) => {
+                let told = source.answer(receipt, given);
+                *reached = reached.with(&told);
+            }
             Peer::Monitor(_) => return false,
         }
         !mem::replace(&mut self.is_writable, true)
@@ -149,7 +190,7 @@ struct Idle {
 }
 
 /// The connection at a key, where it is idle, and has been for longer than this one.
-fn longer_of(idlest: Option<Idle>, key: usize, opened: &OpenConnection) -> Option<Idle>
+fn longer_of<J: Run>(idlest: Option<Idle>, key: usize, opened: &OpenConnection<J>) -> Option<Idle>
     ensures { result ≡ longer_idle idlest key (idling.idle_since opened.now) }
 {
     let Some(since) = opened.idle_since() else {
@@ -165,8 +206,8 @@ fn longer_of(idlest: Option<Idle>, key: usize, opened: &OpenConnection) -> Optio
 /// may have more to be read; of the sources that have something to be sent, or may take it now; and
 /// of the sources whose requests wait at outputs until others are answered, or settled.
 #[derive(Drop)]
-pub struct Connections {
-    opened: Slab<OpenConnection>,
+pub struct Connections<J: Run> {
+    opened: Slab<OpenConnection<J>>,
     /// Each key at most once.
     ready: VecDeque<usize>,
     /// Each key at most once.
@@ -191,10 +232,33 @@ pub struct Connections {
     kept_limit: usize,
 }
 
-impl Connections {
+impl<J: Run> Connections<J> {
+    ghost use Rattle.std.specs.Prelude.{◌≡◌};
+    ghost use Rattle.std.specs.Borrow.{LendsIf, sem};
+    ghost use Rattle.std.specs.Option.{option_copied_mut};
+    ghost use Rattle.slab.specs.Slab as slots;
+    ghost use Rattle.fwd_reader.specs.contracts.peer.Peer.{the_row as peer_row};
+    ghost use Rattle.fwd_reader.specs.contracts.connections.Connections.{the_row as connections_row};
+    ghost use Rattle.fwd_reader.specs.Lending.{with_connection};
+    ghost use Rattle.fwd_reader.specs.OpenConnections.{connection_at};
+
+    /// The connection of this key, if it stands.
+    pub fn at(&mut self, key: usize) -> Option<&mut Peer<J>>
+        ensures* lends { sem 𝓛 (LendsIf (connections_row J.row J.Run) (peer_row J.row J.Run)
+            self.entry result
+            (with_connection self.entry.now key (slots.get self.entry.now.opened key))
+            self.entry.now) }
+        ensures value { option_copied_mut result ≡ connection_at self.old key }
+    {
+        let opened = self.opened.get_mut(key)?;
+        Some(opened.connection_mut())
+    }
+}
+
+impl<J: Run> Connections<J> {
     /// No connections. Of the sources whose other side is gone, and of which requests wait, so many
     /// take no place.
-    pub fn new(alloc: Global, kept_limit: usize) -> Connections {
+    pub fn new(alloc: Global, kept_limit: usize) -> Connections<J> {
         Connections {
             opened: Slab::new(alloc),
             ready: VecDeque::new(alloc),
@@ -246,7 +310,7 @@ impl Connections {
     pub fn add(
         &mut self,
         registry: &Registry,
-        connection: Peer,
+        connection: Peer<J>,
         now: u64,
     ) -> Result<(), AllocError> {
         self.reserve()?;
@@ -363,15 +427,6 @@ impl Connections {
         None
     }
 
-    /// The connection of this key, if it stands.
-    pub fn at(&mut self, key: usize) -> Option<&mut Peer>
-        ensures* lends { sem 𝓛 (LendsAt self.entry key result) }
-        ensures value { option_copied_mut result ≡ connection_at self.old key }
-    {
-        let opened = self.opened.get_mut(key)?;
-        Some(opened.connection_mut())
-    }
-
     /// The key of the source that could have given its place to a new one for longest at a moment
     /// (milliseconds), where it could for so long (milliseconds): it has been silent, and neither
     /// it nor the relay owes the other anything; or it waits with a request that it sends again.
@@ -419,17 +474,37 @@ impl Connections {
         }
     }
 
-    /// Tells each receipt to the source whose request it is of, where that still stands.
-    pub(crate) fn tell_all(&mut self, receipts: &[Receipt])
-        ensures { AreTold (sources_in self.old) receipts.now (sources_in self.new) }
+    /// Tells each receipt to the source whose request it is of, where that still stands. An output
+    /// gave them after a history of the run, and what is known of that history goes on to where the
+    /// sources are known that are told.
+    pub(crate) fn tell_all(
+        &mut self,
+        receipts: &[Receipt],
+        given: &ReachedHistory<J>,
+        reached: &mut ReachedHistory<J>,
+    )
+        ensures told { AreTold (sources_in self.old) receipts.now (sources_in self.new) }
+        ensures onward { Comes reached.old reached.new }
+        ensures delivered { (setting : BookSetting) → AreGivenAfter given.now setting receipts.now
+            → All (IsDeliveredTo reached.new setting.output (sources_in self.old)) receipts.now }
     {
         for receipt in receipts {
-            self.tell(receipt);
+            self.tell(receipt, given, reached);
         }
     }
 
     /// Tells a receipt to the source whose request it is of, where that still stands.
-    fn tell(&mut self, receipt: &Receipt)
+    #[tactic(auto, using(crate::proofs::Told::no_further))]
+    fn tell(
+        &mut self,
+        receipt: &Receipt,
+        given: &ReachedHistory<J>,
+        reached: &mut ReachedHistory<J>,
+    )
+        ensures onward { Comes reached.old reached.new }
+        ensures delivered { (setting : BookSetting) (receipts : List book.Receipt) →
+            AreGivenAfter given.now setting receipts → Contains receipts receipt.now →
+            IsDeliveredTo reached.new setting.output (sources_in self.old) receipt.now }
         ensures told { IsToldOf (sources_in self.old) receipt.now (sources_in self.new) }
         ensures written { (key : ℕ)
             → tree.get nat_cmp self.old.sources receipt.now.origin.conn ≡ Some key
@@ -442,7 +517,7 @@ impl Connections {
         let Some(opened) = self.opened.get_mut(key) else {
             return;
         };
-        if opened.answer(receipt) {
+        if opened.answer(receipt, given, reached) {
             // Room for it was made when the connection came.
             let _ = self.writable.push_back(key);
         }

@@ -2,6 +2,7 @@
 
 use crate::connections::Connections;
 use crate::peer::Peer;
+use fwd_history::Run;
 use fwd_monitors::{Figures, MadePage, MonitorPeer, PageQueue};
 use std::sync::Wait;
 
@@ -9,7 +10,7 @@ use std::sync::Wait;
 /// before.
 const PAGES: usize = 2;
 
-impl Connections {
+impl<J: Run> Connections<J> {
     /// The monitor at a place among those that stand.
     fn monitor_at(&mut self, place: usize) -> Option<(usize, &mut MonitorPeer)> {
         let key = self.monitor_key(place)?;

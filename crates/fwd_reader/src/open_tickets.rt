@@ -19,8 +19,9 @@ use crate::output::Output;
 use crate::ticket_store::TicketStore;
 use fwd_book::Receipt;
 use fwd_history::Run;
-use fwd_output::{ReachedHistory, Ticket};
+use fwd_output::Ticket;
 use fwd_peers::SourcePeer;
+use fwd_run::ReachedHistory;
 use std::alloc::{AllocError, Global};
 use std::sync::Wait;
 
@@ -39,7 +40,7 @@ pub(crate) enum Backlog {
 
 impl Backlog {
     /// The backlog of a source, for its next ticket.
-    pub fn of(source: &SourcePeer) -> Backlog {
+    pub fn of<J: Run>(source: &SourcePeer<J>) -> Backlog {
         if source.owed() < FEW {
             Backlog::Few
         } else {

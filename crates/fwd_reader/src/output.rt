@@ -1,9 +1,10 @@
 //! The outputs, as threads share them.
 
-ghost use Rattle.std.specs.Prelude.{◌≡◌, ◌≤◌, ℕ, length, map, IfOk};
+ghost use Rattle.std.specs.Prelude.{◌≡◌, ◌≤◌, ℕ, length, map, All, IfOk};
+ghost use Rattle.fwd_history.specs.Histories.{Comes};
 ghost use Rattle.fwd_peers.specs.Peers as peers;
 ghost use Rattle.fwd_reader.specs.Ages.{age_at};
-ghost use Rattle.fwd_reader.specs.Ends.{AddUp};
+ghost use Rattle.fwd_reader.specs.Ends.{AddUp, AreReportsAfter, IsLast};
 
 use crate::admission::SharedAdmission;
 use crate::subscribers::Subscribers;
@@ -14,6 +15,7 @@ use fwd_links::WorkerWaker;
 use fwd_monitor::OutputFigures;
 use fwd_output::{Plain, SharedOutput};
 use fwd_peers::CloseReason;
+use fwd_run::{EndedPage, ReachedHistory};
 use std::alloc::{AllocError, Global};
 use std::net::SocketAddr;
 use std::sync::Wait;
@@ -154,4 +156,67 @@ pub fn reports_of<J: Run, R: Wait>(
         reports.push(output.shared.report(rt, alloc)?)?;
     }
     Ok(reports)
+}
+
+/// The last report of an output that nobody shares any more, and its page, by which it is so.
+type Last<J> = (Report, EndedPage<J>);
+
+/// The last report of each of these outputs, in their order, and the history of the run as far as
+/// any of them knows it. The only error is out of memory.
+fn end_all<J: Run>(
+    alloc: Global,
+    outputs: Vec<Output<J>>,
+    reached: &ReachedHistory<J>,
+) -> Result<(Vec<Last<J>>, ReachedHistory<J>), AllocError>
+    ensures count { IfOk result (λ ended. length ended.0.items ≡ length outputs.items) }
+    ensures each { IfOk result (λ ended. All (IsLast ended.1) ended.0.items) }
+    ensures onward { IfOk result (λ ended. Comes reached.now ended.1) }
+{
+    let mut last = Vec::with_capacity(alloc, outputs.len())?;
+    let mut all = reached.again();
+    for output in outputs {
+        let Output { shared, .. } = output;
+        let ended = shared.last_report(alloc)?;
+        all = all.with(&ended.1.reached());
+        last.push(ended)?;
+    }
+    Ok((last, all))
+}
+
+/// The same reports alone, behind one history of the run. The only error is out of memory.
+fn stay_all<J: Run>(
+    alloc: Global,
+    last: Vec<Last<J>>,
+    reached: &ReachedHistory<J>,
+) -> Result<Vec<Report>, AllocError>
+    requires { All (IsLast reached.now) last.items }
+    ensures count { IfOk result (λ reports. length reports.items ≡ length last.items) }
+    ensures add_up { IfOk result (λ reports. AddUp reports.items) }
+    ensures reached { IfOk result (λ reports. AreReportsAfter reached.now reports.items) }
+{
+    let mut reports = Vec::with_capacity(alloc, last.len())?;
+    for ended in last {
+        let (report, page) = ended;
+        page.stays(reached);
+        reports.push(report)?;
+    }
+    Ok(reports)
+}
+
+/// What each output had to do with in the end, in all and of each tag, in their order, where nobody
+/// shares them any more; and the history of the run, behind which each is what its report says. The
+/// only error is out of memory.
+pub fn last_reports<J: Run>(
+    alloc: Global,
+    outputs: Vec<Output<J>>,
+    reached: &ReachedHistory<J>,
+) -> Result<(Vec<Report>, ReachedHistory<J>), AllocError>
+    ensures count { IfOk result (λ last. length last.0.items ≡ length outputs.items) }
+    ensures add_up { IfOk result (λ last. AddUp last.0.items) }
+    ensures reached { IfOk result (λ last. AreReportsAfter last.1 last.0.items) }
+    ensures onward { IfOk result (λ last. Comes reached.now last.1) }
+{
+    let (last, all) = end_all(alloc, outputs, reached)?;
+    let reports = stay_all(alloc, last, &all)?;
+    Ok((reports, all))
 }

@@ -1,8 +1,13 @@
 //! An output as the loop sees it.
 
-ghost use Rattle.std.specs.Prelude.{◌≡◌, ℕ, List, true, false, OnOk, OnErr};
+ghost use Rattle.std.specs.Prelude.{◌≡◌, ℕ, List, Some, true, false, IfErr, IfOk, OnOk, OnErr};
+ghost use Rattle.fwd_modes.specs.Requests.{Request};
+ghost use Rattle.fwd_modes.specs.declared.origin.Origin.{Origin};
 ghost use Rattle.fwd_history.specs.Histories.{Comes};
-ghost use Rattle.fwd_reader.specs.Admissions.{KeepsTicketOf, silent_entries};
+ghost use Rattle.fwd_run.specs.Runs.{routes_at};
+ghost use Rattle.fwd_peers.specs.Costs.{upkeep};
+ghost use Rattle.fwd_peers.specs.Peers.{Gives, first_route};
+ghost use Rattle.fwd_reader.specs.Admissions.{IsTurnedAway, KeepsTicketOf, silent_entries};
 ghost use Rattle.fwd_reader.specs.OpenTickets.{AreSame};
 ghost use Rattle.fwd_reader.specs.Answering.{AnswersSome};
 ghost use Rattle.fwd_reader.specs.Owing.{upkeep_of};
@@ -17,10 +22,11 @@ use crate::output::Output;
 use fwd_book::{AdmitRefusal, Receipt};
 use fwd_chunks::FlushKind;
 use fwd_history::Run;
-use fwd_modes::{Batch, Origin};
+use fwd_modes::Batch;
 use fwd_monitors::Accepted;
-use fwd_output::{ReachedHistory, Ticket};
-use fwd_peers::upkeep;
+use fwd_output::{Entrance, Ticket};
+use fwd_peers::{SourcePeer, upkeep};
+use fwd_run::ReachedHistory;
 use std::alloc::{AllocError, Global};
 use std::mem;
 use std::sync::Wait;
@@ -94,49 +100,61 @@ impl<'a, J: Run> OutputRoute<'a, J> {
         }
     }
 
-    /// Admits a connection's request at a moment (milliseconds), as the output of this number, and
-    /// keeps its ticket. Where memory is refused for keeping it, its entries stay, and it
-    /// is as if the request was not admitted. So it is where the ticket tells another number: an
-    /// output that stands at another's place answers nobody.
+    /// Admits the first request that waits at a connection at a moment (milliseconds), as the output
+    /// of this number, to which the routes lead it by the run's history, and keeps its ticket. How
+    /// many bytes it takes beside its entries. Where memory is refused for keeping the ticket, the
+    /// entries stay, and it is as if the request was not admitted.
     pub fn admit<R: Wait>(
         &mut self,
         rt: &R,
         number: u16,
-        backlog: Backlog,
-        asked: (Origin, Batch),
+        source: &mut SourcePeer<J>,
+        reached: &ReachedHistory<J>,
         now: u64,
-    ) -> Result<(), AdmitRefusal>
-        ensures kept { OnOk result
-            (KeepsTicketOf number self.old.open_tickets asked self.new.open_tickets) }
+    ) -> Result<u64, AdmitRefusal>
+        requires { (routes : List (List (List ℕ))) × (routes_at reached.now ≡ Some routes)
+            × (first_route routes source.old ≡ Some number) }
+        ensures kept { IfOk result (λ owed. (asked : Origin × Request)
+            × Gives source.old (Some asked) source.new
+            × KeepsTicketOf number self.old.open_tickets asked self.new.open_tickets
+            × (owed ≡ upkeep asked.1.tag asked.1.chunk)) }
+        ensures refused { IfErr result (λ reason. IsTurnedAway source.old reason source.new) }
         ensures same { OnErr result (AreSame self.old.open_tickets self.new.open_tickets) }
         ensures flush { OnOk result
             (self.new.timer.now ≡ record self.old.timer.now { is_fresh = true }) }
     {
-        let shared = &self.output.shared;
-        let (origin, batch) = asked;
-        let silent = silent_entries(&batch);
-        let bytes = batch.entries().len() as u64;
-        let ticket = match shared.admit(rt, self.alloc, &mut (), origin, batch, now) {
-            Ok(ticket) => ticket,
-            Err((refusal, _)) => return Err(refusal),
+        let output = &self.output.shared;
+        let backlog = Backlog::of(source);
+        let entrance = Entrance {
+            output,
+            number,
+            reached,
         };
+        let ticket = source.enter(rt, self.alloc, entrance, now)?;
         self.timer.admitted();
+        self.count(ticket.batch());
+        let owed = upkeep(ticket.batch().tag(), ticket.batch().chunk()) as u64;
+        self.wake_for(rt, &ticket);
+        match self.open_tickets.keep(backlog, ticket) {
+            Ok(()) => Ok(owed),
+            Err(ticket) => {
+                output.abandon(rt, ticket);
+                Err(AdmitRefusal::Memory)
+            }
+        }
+    }
+
+    /// A request is accepted.
+    fn count(&mut self, batch: &Batch)
+        ensures tickets { self.new.open_tickets ≡ self.old.open_tickets }
+        ensures timer { self.new.timer ≡ self.old.timer }
+    {
+        let silent = silent_entries(batch);
+        let bytes = batch.entries().len() as u64;
         self.accepted = Accepted {
             without_ack: self.accepted.without_ack.saturating_add(silent),
             bytes: self.accepted.bytes.saturating_add(bytes),
         };
-        if ticket.output() != number {
-            shared.abandon(rt, ticket);
-            return Err(AdmitRefusal::NotNow);
-        }
-        self.wake_for(rt, &ticket);
-        match self.open_tickets.keep(backlog, ticket) {
-            Ok(()) => Ok(()),
-            Err(ticket) => {
-                shared.abandon(rt, ticket);
-                Err(AdmitRefusal::Memory)
-            }
-        }
     }
 
     /// Wakes a worker where a request may have closed a chunk by its size. That happens only where
@@ -208,7 +226,7 @@ impl<'a, J: Run> OutputRoute<'a, J> {
     pub fn collect<R: Wait>(
         &mut self,
         rt: &R,
-        connections: &mut Connections,
+        connections: &mut Connections<J>,
         answered: &mut u64,
         reached: &mut ReachedHistory<J>,
     ) -> Result<(), AllocError>
@@ -238,8 +256,7 @@ impl<'a, J: Run> OutputRoute<'a, J> {
             }
             let handed = self.open_tickets.hand_in(rt, self.alloc, self.output)?;
             let (receipts, given) = handed;
-            *reached = reached.with(&given);
-            connections.tell_all(&receipts);
+            connections.tell_all(&receipts, &given, reached);
             *answered = answered.saturating_add(upkeep_of(&receipts));
         }
         Ok(())

@@ -3,6 +3,7 @@
 ghost use Rattle.std.specs.Prelude.{◌≡◌};
 ghost use Rattle.fwd_reader.specs.Lateness.{is_unknown, limit_of};
 
+use fwd_history::Run;
 use fwd_monitors::MonitorPeer;
 use fwd_peers::{PeerSocket, SourcePeer};
 
@@ -13,13 +14,13 @@ pub(crate) const LOGIN_LIMIT: u64 = 30_000;
 pub(crate) const HEAD_LIMIT: u64 = 10_000;
 
 /// A connection.
-pub enum Peer {
-    Source(SourcePeer),
+pub enum Peer<J: Run> {
+    Source(SourcePeer<J>),
     Monitor(MonitorPeer),
 }
 
 // A drop of its own is proved once, and not at each place where a connection goes.
-impl Drop for Peer {
+impl<J: Run> Drop for Peer<J> {
     fn drop(self) {
         match self {
             Peer::Source(_) | Peer::Monitor(_) => {}
@@ -27,7 +28,7 @@ impl Drop for Peer {
     }
 }
 
-impl Peer {
+impl<J: Run> Peer<J> {
     /// Its socket.
     pub(crate) fn socket(&mut self) -> &mut PeerSocket {
         match self {

@@ -3,6 +3,7 @@
 //! that workers do, and tells what the run comes to.
 
 use crate::connections::Connections;
+use fwd_history::Run;
 use fwd_links::Mailbox;
 use fwd_peers::SourcePeer;
 use std::alloc::{AllocError, Global};
@@ -11,10 +12,10 @@ use std::sync::atomic::{AtomicBool, AtomicUsize, Ordering};
 use std::sync::{Mutex, Wait};
 
 /// Where a reader is told what workers did, and is handed its sources.
-pub struct ReaderInbox {
+pub struct ReaderInbox<J: Run> {
     pub mailbox: Mailbox,
     /// The sources that it is handed and has not taken.
-    sources: Mutex<Vec<SourcePeer>>,
+    sources: Mutex<Vec<SourcePeer<J>>>,
     /// How many sources it was handed.
     handed: AtomicUsize,
     /// How many of them it took.
@@ -32,7 +33,7 @@ pub struct ReaderInbox {
 }
 
 // A drop of its own is proved once, and not at each place where an inbox goes.
-impl Drop for ReaderInbox {
+impl<J: Run> Drop for ReaderInbox<J> {
     fn drop(self) {
         let ReaderInbox {
             mailbox: _,
@@ -48,9 +49,9 @@ impl Drop for ReaderInbox {
     }
 }
 
-impl ReaderInbox {
+impl<J: Run> ReaderInbox<J> {
     /// An inbox without sources.
-    pub fn new(alloc: Global, mailbox: Mailbox) -> ReaderInbox {
+    pub fn new(alloc: Global, mailbox: Mailbox) -> ReaderInbox<J> {
         ReaderInbox {
             mailbox,
             sources: Mutex::new(Vec::new(alloc)),
@@ -65,7 +66,7 @@ impl ReaderInbox {
     }
 
     /// Hands the reader a source. Where memory is refused, which is the only error, it is dropped.
-    pub fn hand<R: Wait>(&self, rt: &R, source: SourcePeer) -> Result<(), AllocError> {
+    pub fn hand<R: Wait>(&self, rt: &R, source: SourcePeer<J>) -> Result<(), AllocError> {
         self.sources.lock(rt).push(source)?;
         add(&self.handed, 1);
         self.mailbox.call();
@@ -73,7 +74,7 @@ impl ReaderInbox {
     }
 
     /// The sources that the reader was handed since the last call, in their order.
-    pub fn take<R: Wait>(&self, rt: &R, alloc: Global) -> Vec<SourcePeer> {
+    pub fn take<R: Wait>(&self, rt: &R, alloc: Global) -> Vec<SourcePeer<J>> {
         let mut guard = self.sources.lock(rt);
         let sources = mem::replace(&mut *guard, Vec::new(alloc));
         drop(guard);
@@ -82,7 +83,7 @@ impl ReaderInbox {
     }
 
     /// These are the connections that the reader has.
-    pub fn note(&self, connections: &Connections) {
+    pub fn note(&self, connections: &Connections<J>) {
         let taken = self.taken.load(Ordering::SeqCst);
         let gone = taken.saturating_sub(connections.sources());
         self.gone.store(gone, Ordering::SeqCst);
@@ -135,15 +136,15 @@ fn add(count: &AtomicUsize, more: usize) {
 }
 
 /// The inboxes of a relay's readers.
-pub struct ReaderInboxes {
+pub struct ReaderInboxes<J: Run> {
     /// That of the reader in front, which has the number 0.
-    pub front: ReaderInbox,
+    pub front: ReaderInbox<J>,
     /// Those of the others, whose numbers follow.
-    pub others: Vec<ReaderInbox>,
+    pub others: Vec<ReaderInbox<J>>,
 }
 
 // A drop of its own is proved once, and not at each place where inboxes go.
-impl Drop for ReaderInboxes {
+impl<J: Run> Drop for ReaderInboxes<J> {
     fn drop(self) {
         let ReaderInboxes {
             front: _,
@@ -152,7 +153,7 @@ impl Drop for ReaderInboxes {
     }
 }
 
-impl ReaderInboxes {
+impl<J: Run> ReaderInboxes<J> {
     /// All readers are called.
     pub fn call_all(&self) {
         self.front.mailbox.call();
@@ -189,7 +190,7 @@ impl ReaderInboxes {
     }
 
     /// The inbox of the reader with the fewest sources, and of several the first.
-    pub fn freest(&self) -> &ReaderInbox {
+    pub fn freest(&self) -> &ReaderInbox<J> {
         let mut freest = &self.front;
         let mut fewest = freest.sources();
         for inbox in &self.others {

@@ -17,8 +17,11 @@ ghost use Rattle.std.specs.Prelude.{
   OnOk,
   OnErr,
 };
-ghost use Rattle.fwd_match.specs.Patterns.{route};
-ghost use Rattle.fwd_peers.specs.Peers.{first_route};
+ghost use Rattle.fwd_modes.specs.Requests.{Request};
+ghost use Rattle.fwd_modes.specs.declared.origin.Origin.{Origin};
+ghost use Rattle.fwd_run.specs.Runs.{routes_at};
+ghost use Rattle.fwd_peers.specs.Costs.{upkeep};
+ghost use Rattle.fwd_peers.specs.Peers.{Gives, first_route};
 ghost use Rattle.fwd_reader.specs.Admissions.{
   Admits,
   AdmitsAndRefuses,
@@ -36,18 +39,15 @@ mod collecting;
 
 use crate::admission::Admission;
 use crate::flush_timer::FlushTimer;
-use crate::open_tickets::Backlog;
 use crate::output::{Output, sized};
 use crate::output_route::OutputRoute;
-use fwd_book::AdmitRefusal;
 use fwd_environment::WorkerEvent;
 use fwd_history::Run;
 use fwd_links::Notices;
 use fwd_match::Routes;
-use fwd_modes::{Batch, Origin};
 use fwd_monitors::{Accepted, Observer, SharedTally};
-use fwd_output::ReachedHistory;
-use fwd_peers::{CloseReason, SourcePeer, upkeep};
+use fwd_peers::{CloseReason, SourcePeer};
+use fwd_run::ReachedHistory;
 use std::alloc::{AllocError, AllocFailed, Global};
 use std::marker::Model;
 use std::sync::Wait;
@@ -80,7 +80,8 @@ pub struct Router<'a, J: Run> {
 }
 
 impl<'a, J: Run> Model for Router<'a, J> {
-    ghost use Rattle.std.specs.Prelude.{All};
+    ghost use Rattle.std.specs.Prelude.{◌≡◌, All, Some};
+    ghost use Rattle.fwd_run.specs.Runs.{routes_at};
     ghost use Rattle.fwd_reader.specs.Owing.{owed_at_each};
     ghost use Rattle.fwd_reader.specs.Routers.{RouterShown, stores_of};
     ghost use Rattle.fwd_reader.specs.Promises.{HoldsRouted};
@@ -94,7 +95,8 @@ impl<'a, J: Run> Model for Router<'a, J> {
       reached = o.reached;
     } };
 
-    ghost invariant = { λ o. All (HoldsRouted o.routes.now) (stores_of o.all.items) };
+    ghost invariant = { λ o. All (HoldsRouted o.routes.now) (stores_of o.all.items)
+        × (routes_at o.reached ≡ Some o.routes.now) };
 }
 
 /// The outputs' tickets are abandoned.
@@ -124,6 +126,7 @@ impl<'a, J: Run> Router<'a, J> {
         alloc: Global,
         parts: RouterParts<'a, J>,
     ) -> Result<Router<'a, J>, AllocError>
+        requires { routes_at parts.reached ≡ Some parts.routes.now }
         ensures routes { IfOk result (λ router. router.routes ≡ parts.entry.routes.now) }
         ensures owed { IfOk result (λ router.
             router.owed ≡ map (λ output. 0) parts.entry.outputs.now) }
@@ -166,7 +169,7 @@ impl<'a, J: Run> Router<'a, J> {
     /// Admits the requests that wait at a source at a moment (milliseconds), and says whether some
     /// have to wait longer. A request that is refused ends the source, and what waits behind it is
     /// not looked at.
-    pub fn admit_all<R: Wait>(&mut self, rt: &R, source: &mut SourcePeer, now: u64) -> bool
+    pub fn admit_all<R: Wait>(&mut self, rt: &R, source: &mut SourcePeer<J>, now: u64) -> bool
         ensures waits { result ≡ true → AdmitsAndWaits self.old source.old self.new source.new }
         ensures done { result ≡ false → AdmitsEach self.old source.old self.new source.new
             ⊎ AdmitsAndRefuses self.old source.old self.new source.new }
@@ -191,7 +194,7 @@ impl<'a, J: Run> Router<'a, J> {
     fn admit<R: Wait>(
         &mut self,
         rt: &R,
-        source: &mut SourcePeer,
+        source: &mut SourcePeer<J>,
         now: u64,
     ) -> Result<(), NotAdmitted>
         ensures admitted { OnOk result (Admits self.old source.old self.new source.new) }
@@ -210,24 +213,17 @@ impl<'a, J: Run> Router<'a, J> {
         if !self.may_enter(rt, output, source) {
             return Err(NotAdmitted::Waits);
         }
-        let backlog = Backlog::of(source);
         let bytes = source.asked_bytes() as u64;
-        let Some(asked) = source.next() else {
-            self.admission.release(rt, output, bytes);
-            let refusal = AdmitRefusal::Memory;
-            return Err(NotAdmitted::Ends(CloseReason::Refused(output, refusal)));
-        };
-        let owed = upkeep(asked.1.tag(), asked.1.chunk()) as u64;
-        let entered = self.enter(rt, output, backlog, asked, now);
+        let entered = self.enter(rt, output, source, now);
         self.admission.release(rt, output, bytes);
-        entered?;
+        let owed = entered?;
         self.owes(output, owed);
         Ok(())
     }
 
     /// Whether the first request that waits at a source may enter the output of this number. Where
     /// it may not, it waits there from now on.
-    fn may_enter<R: Wait>(&mut self, rt: &R, output: u16, source: &mut SourcePeer) -> bool
+    fn may_enter<R: Wait>(&mut self, rt: &R, output: u16, source: &mut SourcePeer<J>) -> bool
         ensures this { self.new ≡ self.old }
         ensures source { source.new ≡ source.old }
     {
@@ -242,23 +238,25 @@ impl<'a, J: Run> Router<'a, J> {
         self.admission.owes(output, bytes);
     }
 
-    /// Enters a request at a moment (milliseconds) at the output of this number, which the routes
-    /// name first for its tag: that output keeps its ticket.
+    /// Enters the first request that waits at a source at a moment (milliseconds) at the output of
+    /// this number, which the routes name first for its tag: that output keeps its ticket. How many
+    /// bytes it takes beside its entries.
     fn enter<R: Wait>(
         &mut self,
         rt: &R,
         output: u16,
-        backlog: Backlog,
-        asked: (Origin, Batch),
+        source: &mut SourcePeer<J>,
         now: u64,
-    ) -> Result<(), NotAdmitted>
-        requires { route self.old.routes asked.1.tag ≡ Some output }
-        ensures entered { OnOk result
-            (Enters self.old.stores output asked self.new.stores) }
+    ) -> Result<u64, NotAdmitted>
+        requires { first_route self.old.routes source.old ≡ Some output }
+        ensures entered { IfOk result (λ owed. (asked : Origin × Request)
+            × Gives source.old (Some asked) source.new
+            × Enters self.old.stores output asked self.new.stores
+            × (owed ≡ upkeep asked.1.tag asked.1.chunk)) }
         ensures ends { IfErr result (λ why. why ≢ NotAdmitted.Waits) }
         ensures declined { IfErr result (λ why. (reason : CloseReason)
             → why ≡ NotAdmitted.Ends reason
-            → IsDeclined self.old.stores output reason) }
+            → IsDeclined self.old.stores output source.old reason source.new) }
         ensures same { OnErr result (AreAllSame self.old.stores self.new.stores) }
         ensures routes { self.new.routes ≡ self.old.routes }
         ensures owed { self.new.owed ≡ self.old.owed }
@@ -266,14 +264,17 @@ impl<'a, J: Run> Router<'a, J> {
         let Some(output_route) = self.all.get_mut(output as usize) else {
             return Err(NotAdmitted::Ends(CloseReason::NoRoute));
         };
-        if let Err(refusal) = output_route.admit(rt, output, backlog, asked, now) {
-            return Err(NotAdmitted::Ends(CloseReason::Refused(output, refusal)));
-        }
-        Ok(())
+        let owed = match output_route.admit(rt, output, source, &self.reached, now) {
+            Ok(owed) => owed,
+            Err(refusal) => {
+                return Err(NotAdmitted::Ends(CloseReason::Refused(output, refusal)));
+            }
+        };
+        Ok(owed)
     }
 
     /// A source goes: it waits at no output any more, and whoever is next in line may be admitted.
-    pub fn leave<R: Wait>(&mut self, rt: &R, source: &mut SourcePeer)
+    pub fn leave<R: Wait>(&mut self, rt: &R, source: &mut SourcePeer<J>)
         ensures this { self.new ≡ self.old }
         ensures source { source.new ≡ source.old }
     {

@@ -9,3 +9,10 @@ pub mod Marks
 pub mod Receiving
 pub mod Growing
 pub mod Delivering
+pub mod Acting
+pub mod Keeping
+pub mod Fixed
+pub mod Carrying
+pub mod Adding
+pub mod Beginning
+pub mod Starting

@@ -70,7 +70,7 @@ own_worker r o p v f same = by (slice_get r.lanes o) refl
     by None here = refl
     by (Some l) here = put_worker o p v l (f l) r.lanes here (λ on. ap (λ ws. slice_get ws v) (same l))
 
-own_far : {X : Type 0} (see : LiveRelay → X) (r : LiveRelay) (o : ℕ) (f : LiveLane → LiveLane)
+pub own_far : {X : Type 0} (see : LiveRelay → X) (r : LiveRelay) (o : ℕ) (f : LiveLane → LiveLane)
     → ((l : LiveLane) → see (lane_moved o f r (Some l)) ≡ see r) → see (lane_moved o f r (slice_get r.lanes o)) ≡ see r
 own_far see r o f stays = by (slice_get r.lanes o)
   where
@@ -107,7 +107,7 @@ worker_step o w r (Opens config) off = refl
 worker_step o w r (Relay e) off = worker_stays o w r e (unnamed (Session o w) e off)
 worker_step o w r (Leave a origins) off = own_worker r a o w (lane_left origins) (λ l. refl)
 
-source_step : (id : ℕ) (r : LiveRelay) (e : RunEvent) → touches (key_of (Connection id)) e ≡ false → source_in (next r e) id ≡ source_in r id
+pub source_step : (id : ℕ) (r : LiveRelay) (e : RunEvent) → touches (key_of (Connection id)) e ≡ false → source_in (next r e) id ≡ source_in r id
 source_step id r (Opens config) off = refl
 source_step id r (Relay e) off = source_stays id r e (unnamed (Connection id) e off)
 source_step id r (Leave a origins) off = own_far (λ s. source_in s id) r a (lane_left origins) (λ l. refl)

@@ -37,7 +37,7 @@ always (Goes a s) f = to (f a s)
 
 -- what is seen of the relay is the same after the event where it is so of each state that the event
 -- leads to
-kept : {X : Type 0} (see : LiveRelay → X) (r : LiveRelay) (x : Outcome LiveRelay)
+pub kept : {X : Type 0} (see : LiveRelay → X) (r : LiveRelay) (x : Outcome LiveRelay)
     → Onward (λ a s. see s ≡ see r) x → see (state_of r x) ≡ see r
 kept see r x on = at_next r x (λ s. see s ≡ see r) (λ a e. refl) on (λ a s e same. same)
 
@@ -117,24 +117,24 @@ put_worker o p v l m ls here same =
 -- ---- where an event happens
 
 module _ {X : Type 0} (see : LiveRelay → X) (r : LiveRelay) where
-  source_keeps : (id : ℕ) (f : LiveSource → Outcome LiveSource) → ((u : LiveSource) → see (lives.puts_source r id u) ≡ see r)
+  pub source_keeps : (id : ℕ) (f : LiveSource → Outcome LiveSource) → ((u : LiveSource) → see (lives.puts_source r id u) ≡ see r)
       → see (state_of r (steps.at_source lives r id f)) ≡ see r
   source_keeps id f same =
       kept see r (steps.at_source lives r id f) (source_on lives r id (λ a s. see s ≡ see r) f (λ s here. always (f s) (λ a u. same u)))
 
-  lane_keeps : (o : ℕ) (f : LiveLane → Outcome LiveLane)
+  pub lane_keeps : (o : ℕ) (f : LiveLane → Outcome LiveLane)
       → ((l : LiveLane) → slice_get r.lanes o ≡ Some l → Onward (λ a m. see (with_live_lane o m r) ≡ see r) (f l))
       → see (state_of r (steps.at_lane lives r o f)) ≡ see r
   lane_keeps o f same = kept see r (steps.at_lane lives r o f) (lane_on lives r o (λ a s. see s ≡ see r) f same)
 
-  both_keeps : (id o : ℕ) (f : LiveSource → LiveLane → Outcome (LiveSource × LiveLane))
+  pub both_keeps : (id o : ℕ) (f : LiveSource → LiveLane → Outcome (LiveSource × LiveLane))
       → ((s : LiveSource) (l : LiveLane) → slice_get r.lanes o ≡ Some l → Onward (λ a two. see (with_live_lane o two.1 (lives.puts_source r id two.0)) ≡ see r) (f s l))
       → see (state_of r (steps.at_both lives r id o f)) ≡ see r
   both_keeps id o f same =
       kept see r (steps.at_both lives r id o f) (both_on lives r id o (λ a s. see s ≡ see r) f (λ s l known here. same s l here))
 
   -- at a worker, and at its session
-  worker_keeps : (o w : ℕ) (f : LiveLane → Worker LiveSession → Outcome (Worker LiveSession))
+  pub worker_keeps : (o w : ℕ) (f : LiveLane → Worker LiveSession → Outcome (Worker LiveSession))
       → ((l : LiveLane) (y : Worker LiveSession) → slice_get r.lanes o ≡ Some l → see (with_live_lane o (with_live_worker l w y) r) ≡ see r)
       → see (state_of r (steps.at_lane lives r o (λ l. steps.at_worker lives l w (f l)))) ≡ see r
   worker_keeps o w f same =

@@ -23,11 +23,14 @@ use Rattle.std.specs.Prelude.{
   slice_get,
 }
 use Rattle.std.specs.List.{list_any}
+use Rattle.fwd_msgpack.specs.declared.limits.Limits.{Limits}
+use Rattle.fwd_handshake.specs.declared.credentials.Security.{Security}
 use Rattle.fwd_modes.specs.declared.origin.Origin.{Origin}
 use Rattle.fwd_source.specs.Live.{LiveSource}
 use Rattle.fwd_session.specs.Live.{LiveSession}
 use Rattle.fwd_book.specs.Live.{live_leaves, live_opening}
 use Rattle.fwd_model.specs.declared.config.Config.{Config}
+use Rattle.fwd_model.specs.declared.config.OutputConfig.{OutputConfig}
 use Rattle.fwd_model.specs.declared.event.Event.{Event}
 use Rattle.fwd_model.specs.declared.event.Event.TheVariants as event
 use Rattle.fwd_model.specs.Outcome.{state_of}
@@ -143,6 +146,10 @@ worker_of w (Some l) = slice_get l.workers w
 abbrev pub worker_in : LiveRelay → (output worker : ℕ) → Option (Worker LiveSession)
 worker_in r o w = worker_of w (slice_get r.lanes o)
 
+-- what an output is set to, if there is one of this number
+abbrev pub settings_in : LiveRelay → (output : ℕ) → Option OutputConfig
+settings_in r o = option_map (λ l. l.config) (slice_get r.lanes o)
+
 -- a connection that is known by its id
 abbrev pub source_in : LiveRelay → (id : ℕ) → Option LiveSource
 source_in r id = live_source_at id r.connections
@@ -160,6 +167,22 @@ output_at past o = seen (λ r. output_in r o) (run_after past)
 abbrev pub worker_at : List RunEvent → (output worker : ℕ) → Option (Worker LiveSession)
 worker_at past o w = seen (λ r. worker_in r o w) (run_after past)
 
+-- what an output is set to
+abbrev pub settings_at : List RunEvent → (output : ℕ) → Option OutputConfig
+settings_at past o = seen (λ r. settings_in r o) (run_after past)
+
+-- which patterns lead to which output
+abbrev pub routes_at : List RunEvent → Option (List (List (List ℕ)))
+routes_at past = seen (λ r. Some r.routes) (run_after past)
+
+-- what sources have to prove
+abbrev pub security_at : List RunEvent → Option Security
+security_at past = seen (λ r. Some r.security) (run_after past)
+
+-- how long and deep their values may be
+abbrev pub limits_at : List RunEvent → Option Limits
+limits_at past = seen (λ r. Some r.limits) (run_after past)
+
 -- a connection, by its id
 abbrev pub source_at : List RunEvent → (id : ℕ) → Option LiveSource
 source_at past id = seen (λ r. source_in r id) (run_after past)
@@ -170,16 +193,16 @@ last_id past = seen (λ r. r.last) (run_after past)
 
 -- ---- whose part an event is
 
+-- the number of what begins the run, and gives connections their ids, which rise
+abbrev pub id_key : ℕ
+id_key = 0
+
 -- The number of a part: an output's is followed by those of its workers, which are 31 at the most,
 -- of 64 outputs at the most.
 abbrev pub key_of : Named → ℕ
-key_of (Output o) = 32 * o
-key_of (Session o w) = 32 * o + 1 + w
+key_of (Output o) = 1 + 32 * o
+key_of (Session o w) = 2 + 32 * o + w
 key_of (Connection id) = 2049 + id
-
--- the number of what begins the run, and gives connections their ids, which rise
-abbrev pub id_key : ℕ
-id_key = 2048
 
 -- the part of a number has a part in the event
 abbrev pub touches : ℕ → RunEvent → Bool

@@ -21,7 +21,7 @@ use Rattle.fwd_turns.specs.declared.visiting.After.TheVariants.{Again, Waits, Ke
 use Rattle.fwd_turns.specs.Visits.{after_of, is_left, visited_of}
 use Rattle.fwd_reader.specs.Admissions.{AdmitsAndRefuses, AdmitsAndWaits}
 use Rattle.fwd_reader.specs.Routers.{RouterShown}
-use Rattle.fwd_turns.specs.Keeping.{IsDone, IsReadAt, IsReadTo, IsServedAt, IsVisited, IsWith, KeepsAt, KeepsServed, KeepsWaiting, ReadsAndServes, Serves, Standing, StandsWith, waits_unasked}
+use Rattle.fwd_turns.specs.Keeping.{IsDone, IsReadAt, IsReadFrom, IsReadTo, IsServedAt, IsVisited, IsWith, KeepsAt, KeepsServed, KeepsWaiting, ReadsAndServes, Serves, Standing, StandsWith, waits_unasked}
 
 -- a connection goes or not
 goes_or_not : (after : After) → (after ≡ Goes) ⊎ (after ≢ Goes)
@@ -31,17 +31,17 @@ goes_or_not Waits = inr (λ e. cc)
 goes_or_not Kept = inr (λ e. cc)
 goes_or_not Rests = inr (λ e. cc)
 
-some_same : (a b : Peer) → Some a ≡ Some b → a ≡ b
+some_same : {J : Type 0} → (a b : Peer J) → Some a ≡ Some b → a ≡ b
 some_same a b e = cc
 
 -- another connection stands at a key
-updated : (opened : slots.Slab OpenConnection) (key : ℕ) (was is : OpenConnection)
+updated : {J : Type 0} → (opened : slots.Slab (OpenConnection J)) (key : ℕ) (was is : OpenConnection J)
     → slots.get opened key ≡ Some was
     → slots.Updates opened (slots.with_value opened key is) key (Some is)
 updated opened key was is there = Updates-with_value opened key is (subst IsSome (sym there) refl)
 
 -- the source at a key was visited
-pub visits : (opened : slots.Slab OpenConnection) (key : ℕ) (was : OpenConnection) (after : Peer)
+pub visits : {J : Type 0} → (opened : slots.Slab (OpenConnection J)) (key : ℕ) (was : OpenConnection J) (after : Peer J)
     → slots.get opened key ≡ Some was
     → ((source : PeerShown) → was.connection ≡ kind.Source source → IsWith source after)
     → IsVisited key (connections_in opened)
@@ -123,13 +123,13 @@ stays_waiting s t goes_on waits closing after writes found becomes unasked goes 
     (sym becomes ∙ goes)
 
 -- where nothing changes all stand
-pub all_stand : (s t : Standing) → t ≡ s → KeepsWaiting s t
+pub all_stand : {J : Type 0} → (s t : Standing J) → t ≡ s → KeepsWaiting s t
 all_stand s t same = record {
   kept = λ key source there waits. (source, (ap (λ f. f key) same ∙ there, refl));
 }
 
 -- what becomes of others where one goes, or none does
-others_stand : (u t : Standing) (key k : ℕ) (after : After) → (after ≢ Goes → t ≡ u)
+others_stand : {J : Type 0} → (u t : Standing J) (key k : ℕ) (after : After) → (after ≢ Goes → t ≡ u)
     → (after ≡ Goes → t ≡ without key u) → (k == key) ≡ false
     → (after ≡ Goes) ⊎ (after ≢ Goes) → t k ≡ u k
 others_stand u t key k after stays goes apart (inl e) =
@@ -137,7 +137,7 @@ others_stand u t key k after stays goes apart (inl e) =
 others_stand u t key k after stays goes apart (inr n) = ap (λ f. f k) (stays n)
 
 -- a connection is visited, and goes by what becomes of it
-kept_there : (s u t : Standing) (key : ℕ) (after : After) → IsVisited key s u
+kept_there : {J : Type 0} → (s u t : Standing J) (key : ℕ) (after : After) → IsVisited key s u
     → KeepsAt key s after → (after ≢ Goes → t ≡ u) → (after ≡ Goes → t ≡ without key u)
     → (k : ℕ) (source : PeerShown) → s k ≡ Some (kind.Source source)
     → waits_unasked source ≡ true → StandsWith source (t k)
@@ -161,7 +161,7 @@ kept_there s u t key after visited stand stays goes k source there waits = by (k
       ),
     )
 
-pub keeps : (before s u t : Standing) (key : ℕ) (after : After) → s ≡ before
+pub keeps : {J : Type 0} → (before s u t : Standing J) (key : ℕ) (after : After) → s ≡ before
     → IsVisited key s u → KeepsAt key s after → (after ≢ Goes → t ≡ u)
     → (after ≡ Goes → t ≡ without key u) → KeepsWaiting before t
 keeps before s u t key after same visited stand stays goes =
@@ -169,7 +169,7 @@ keeps before s u t key after same visited stand stays goes =
     (record { kept = kept_there s u t key after visited stand stays goes })
 
 -- a connection goes that was changed before
-pub gone_then : (s u t : Standing) (key : ℕ)
+pub gone_then : {J : Type 0} → (s u t : Standing J) (key : ℕ)
     → ((other : ℕ) → other ≢ key → u other ≡ s other) → t ≡ without key u → t ≡ without key s
 gone_then s u t key others gone = gone ∙ (λ i k. by k (k == key) refl i)
   where
@@ -178,16 +178,17 @@ gone_then s u t key others gone = gone ∙ (λ i k. by k (k == key) refl i)
     by k true e = refl
     by k false e = others k (eqb-false k key e)
 
-source_same : (a b : PeerShown) → kind.Source a ≡ kind.Source b → a ≡ b
-source_same a b e = cc
+source_same : {J : Type 0} → (connection : Peer J) (a b : PeerShown) → connection ≡ kind.Source a
+    → connection ≡ kind.Source b → a ≡ b
+source_same connection a b is it = cc
 
 -- a source is written to that stands there
-pub stands_with : (connection : Peer) (was told after source : PeerShown)
+pub stands_with : {J : Type 0} → (connection : Peer J) (was told after source : PeerShown)
     → connection ≡ kind.Source was → told ≡ record was { why = None }
     → after.live.waiting ≡ told.live.waiting → connection ≡ kind.Source source
-    → IsWith source (kind.Source after)
+    → IsWith {J = J} source (kind.Source after)
 stands_with connection was told after source is once waiting it =
-    let same : was ≡ source = source_same was source (sym is ∙ it) in (
+    let same : was ≡ source = source_same connection was source is it in (
       after,
       (
         refl,
@@ -196,11 +197,11 @@ stands_with connection was told after source is once waiting it =
       ),
     )
 
-none_is : (was : Peer) → Some was ≡ None → ⊥
+none_is : {J : Type 0} → (was : Peer J) → Some was ≡ None → ⊥
 none_is was e = absurd cc
 
 -- the connection that is lent was visited
-pub visited_at : (c : Connections) (key : ℕ) (o : Option OpenConnection) (was after : Peer)
+pub visited_at : {J : Type 0} → (c : Connections J) (key : ℕ) (o : Option (OpenConnection J)) (was after : Peer J)
     → slots.get c.opened key ≡ o → Some was ≡ connection_at c key
     → ((source : PeerShown) → was ≡ kind.Source source → IsWith source after)
     → IsVisited key (connection_at c) (connection_at (with_connection c key o after))
@@ -292,30 +293,33 @@ reads_and_serves o p s read served told t waits again closing goes_on after had 
     }
 
 -- a source is left unread
-pub stays_so : (o : RouterShown) (s t : PeerShown) → t ≡ s → IsReadTo o s Again o (kind.Source t)
-stays_so o s t same =
-    inl ((t, (refl, ap (λ (x : PeerShown). x.live.waiting) same)), (λ e. cc), refl)
+pub stays_so : (o : RouterShown) (s t : PeerShown) → t ≡ s → IsReadFrom o s Again o t
+stays_so o s t same = inl (ap (λ (x : PeerShown). x.live.waiting) same, (λ e. cc), refl)
 
 -- a source was read and served
 pub was_served : (o p : RouterShown) (s t : PeerShown) (after : After)
-    → ReadsAndServes o s after p t → IsReadTo o s after p (kind.Source t)
-was_served o p s t after reads = inr (t, (refl, reads))
+    → ReadsAndServes o s after p t → IsReadFrom o s after p t
+was_served o p s t after reads = inr reads
 
 -- and so was the connection that it is
-pub was_read_to : (o p : RouterShown) (connection last : Peer) (was source : PeerShown)
-    (after : After) → connection ≡ kind.Source was → IsReadTo o was after p last
+pub was_read_to : {J : Type 0} → (o p : RouterShown) (connection last : Peer J) (was left source : PeerShown)
+    (after : After) → connection ≡ kind.Source was → last ≡ kind.Source left → IsReadFrom o was after p left
     → connection ≡ kind.Source source → IsReadTo o source after p last
-was_read_to o p connection last was source after is reads it =
-    subst (λ s. IsReadTo o s after p last) (source_same was source (sym is ∙ it)) reads
+was_read_to o p connection last was left source after is then_ reads it =
+    subst (λ s. IsReadTo o s after p last) (source_same connection was source is it) (by reads)
+  where
+    by : IsReadFrom o was after p left → IsReadTo o was after p last
+    by (inl stays) = inl ((left, (then_, stays.0)), stays.1, stays.2)
+    by (inr served) = inr (left, (then_, served))
 
 -- where nothing changes each stands
-pub all_served : (o : RouterShown) (s t : Standing) → t ≡ s → KeepsServed o s o t
+pub all_served : {J : Type 0} → (o : RouterShown) (s t : Standing J) → t ≡ s → KeepsServed o s o t
 all_served o s t same = record {
   each = λ key source there. inl (source, (ap (λ f. f key) same ∙ there, refl));
 }
 
 -- the connection that is lent was read
-pub read_there : (c : Connections) (key : ℕ) (o : Option OpenConnection) (was after : Peer)
+pub read_there : {J : Type 0} → (c : Connections J) (key : ℕ) (o : Option (OpenConnection J)) (was after : Peer J)
     (before then_ : RouterShown) (becomes : After)
     → slots.get c.opened key ≡ o → Some was ≡ connection_at c key
     → ((source : PeerShown) → was ≡ kind.Source source
@@ -336,7 +340,7 @@ read_there c key (Some opened) was after before then_ becomes there same reads =
     }
 
 -- none is lent
-pub read_none : (o : RouterShown) (s : Standing) (key : ℕ) → s key ≡ None
+pub read_none : {J : Type 0} → (o : RouterShown) (s : Standing J) (key : ℕ) → s key ≡ None
     → IsReadAt key o s Rests o s
 read_none o s key none = record {
   others = λ other apart. refl;
@@ -344,11 +348,11 @@ read_none o s key none = record {
 }
 
 -- what becomes of the one that was read
-served_at : (o p : RouterShown) (s u t : Standing) (key : ℕ) (after : After)
+served_at : {J : Type 0} → (o p : RouterShown) (s u t : Standing J) (key : ℕ) (after : After)
     → IsReadAt key o s after p u → (after ≢ Goes → t ≡ u) → (after ≡ Goes → t ≡ without key u)
     → (source : PeerShown) → s key ≡ Some (kind.Source source)
     → StandsWith source (t key) ⊎ IsServedAt o source p (t key)
-served_at o p s u t key after read stays goes source there =
+served_at {J} o p s u t key after read stays goes source there =
     by (read.there source there).0 (read.there source there).1.0 (read.there source there).1.1
   where
     last : (v : PeerShown) → u key ≡ Some (kind.Source v) → (after ≡ Goes) ⊎ (after ≢ Goes)
@@ -358,7 +362,7 @@ served_at o p s u t key after read stays goes source there =
         inr (e, ap (λ f. f key) (goes e) ∙ ap (λ b. if b then None else u key) same)
     last v is (inr n) = inl (ap (λ f. f key) (stays n) ∙ is)
 
-    by : (connection : Peer) → u key ≡ Some connection → IsReadTo o source after p connection
+    by : (connection : Peer J) → u key ≡ Some connection → IsReadTo o source after p connection
         → StandsWith source (t key) ⊎ IsServedAt o source p (t key)
     by connection at_key (inl stood) =
         inl (stood.0.0, (ap (λ f. f key) (stays stood.1) ∙ at_key ∙ ap Some stood.0.1.0, stood.0.1.1))
@@ -366,7 +370,7 @@ served_at o p s u t key after read stays goes source there =
         inr (after, (was.0, (was.1.1, last was.0 (at_key ∙ ap Some was.1.0) (goes_or_not after))))
 
 -- a connection is read, and goes by what becomes of it
-pub keeps_served : (o p q : RouterShown) (before s u t : Standing) (key : ℕ) (after : After)
+pub keeps_served : {J : Type 0} → (o p q : RouterShown) (before s u t : Standing J) (key : ℕ) (after : After)
     → s ≡ before → IsReadAt key o s after p u → (after ≢ Goes → t ≡ u)
     → (after ≡ Goes → t ≡ without key u) → q ≡ p → KeepsServed o before q t
 keeps_served o p q before s u t key after same read stays goes left =
@@ -395,44 +399,44 @@ keeps_served o p q before s u t key after same read stays goes left =
 -- ---- what is noted of a connection behind a visit
 
 -- what stands at a key once it was changed there
-changed_there : (opened : slots.Slab OpenConnection) (key : ℕ) (o : Option OpenConnection)
-    (change : OpenConnection → OpenConnection) → slots.get opened key ≡ o
+changed_there : {J : Type 0} → (opened : slots.Slab (OpenConnection J)) (key : ℕ) (o : Option (OpenConnection J))
+    (change : OpenConnection J → OpenConnection J) → slots.get opened key ≡ o
     → slots.get (put_at opened key (option_map change o)) key ≡ option_map change o
 changed_there opened key None change there = there
 changed_there opened key (Some was) change there =
     (updated opened key was (change was) there).changed
 
 -- the same of these connections
-changed_at : (before opened : slots.Slab OpenConnection) (key : ℕ)
-    (change : OpenConnection → OpenConnection) → opened ≡ with_changed before key change
+changed_at : {J : Type 0} → (before opened : slots.Slab (OpenConnection J)) (key : ℕ)
+    (change : OpenConnection J → OpenConnection J) → opened ≡ with_changed before key change
     → slots.get opened key ≡ option_map change (slots.get before key)
 changed_at before opened key change is =
     ap (λ o. slots.get o key) is ∙ changed_there before key (slots.get before key) change refl
 
 -- whether what stands at a key, if something does, stands among those that are ready
-abbrev are_ready : Option OpenConnection → Option Bool
-are_ready o = option_map (λ (it : OpenConnection). it.is_ready) o
+abbrev are_ready : {J : Type 0} → Option (OpenConnection J) → Option Bool
+are_ready {J} o = option_map (λ (it : OpenConnection J). it.is_ready) o
 
 -- the same of those whose requests wait
-abbrev are_queued : Option OpenConnection → Option Bool
-are_queued o = option_map (λ (it : OpenConnection). it.is_queued) o
+abbrev are_queued : {J : Type 0} → Option (OpenConnection J) → Option Bool
+are_queued {J} o = option_map (λ (it : OpenConnection J). it.is_queued) o
 
-ready_not : (o : Option OpenConnection)
+ready_not : {J : Type 0} → (o : Option (OpenConnection J))
     → are_ready (option_map waits_no_more (option_map (made_ready false) o)) ≡ Some false → ⊥
 ready_not None e = absurd cc
 ready_not (Some o) e = absurd cc
 
-queued_not : (now : ℕ) (o : Option OpenConnection)
+queued_not : {J : Type 0} → (now : ℕ) (o : Option (OpenConnection J))
     → are_queued (option_map (made_queued now) o) ≡ Some false → ⊥
 queued_not now None e = absurd cc
 queued_not now (Some o) e = absurd cc
 
-still_queued : (o : Option OpenConnection)
+still_queued : {J : Type 0} → (o : Option (OpenConnection J))
     → are_queued (option_map made_kept o) ≡ are_queued o
 still_queued None = refl
 still_queued (Some o) = refl
 
-kept_queued : (opened : slots.Slab OpenConnection) (key : ℕ) (b : Bool)
+kept_queued : {J : Type 0} → (opened : slots.Slab (OpenConnection J)) (key : ℕ) (b : Bool)
     → are_queued (slots.get (if b then opened else with_changed opened key made_kept) key)
     ≡ are_queued (slots.get opened key)
 kept_queued opened key true = refl
@@ -441,7 +445,7 @@ kept_queued opened key false =
     ∙ still_queued (slots.get opened key)
 
 -- one that was made ready, and of which no request waits then, is ready
-pub noted_again : (s between t : Connections) (key : ℕ)
+pub noted_again : {J : Type 0} → (s between t : Connections J) (key : ℕ)
     → between.opened ≡ with_changed s.opened key (made_ready false)
     → t.opened ≡ with_changed between.opened key waits_no_more → is_ready_at t key ≢ Some false
 noted_again s between t key ready admitted not_ready =
@@ -451,14 +455,14 @@ noted_again s between t key ready admitted not_ready =
     (changed_at s.opened between.opened key (made_ready false) ready))) ∙ not_ready)
 
 -- one of which requests wait stands among those
-pub noted_waits : (s t : Connections) (key now : ℕ)
+pub noted_waits : {J : Type 0} → (s t : Connections J) (key now : ℕ)
     → t.opened ≡ with_changed s.opened key (made_queued now) → is_queued_at t key ≢ Some false
 noted_waits s t key now waits not_queued =
     queued_not now (slots.get s.opened key)
     (sym (ap are_queued (changed_at s.opened t.opened key (made_queued now) waits)) ∙ not_queued)
 
 -- so does one whose other side is gone
-pub noted_kept : (s t : Connections) (kept limit key now : ℕ)
+pub noted_kept : {J : Type 0} → (s t : Connections J) (kept limit key now : ℕ)
     → t.opened ≡ kept_at kept limit key (with_changed s.opened key (made_queued now))
     → is_queued_at t key ≢ Some false
 noted_kept s t kept limit key now is not_queued =

@@ -1,8 +1,9 @@
 //! Where connections come in.
 
-ghost use Rattle.std.specs.Prelude.{◌≡◌, ◌<◌, None, Some, IfOk, IfSome, OnOk};
+ghost use Rattle.std.specs.Prelude.{◌≡◌, ◌<◌, Some, IfOk, IfSome};
 ghost use Rattle.std.specs.Arc.{arc_value};
 ghost use Rattle.fwd_handshake.specs.Draws.{drawn, moved};
+ghost use Rattle.fwd_source.specs.Live.{opened_source};
 ghost use Rattle.fwd_turns.specs.Ids.{IsNoLess};
 
 use crate::places::{PlaceRule, free_place, is_crowded};
@@ -12,8 +13,10 @@ use fwd_listeners::tokens::{MONITORS as MONITOR_TOKEN, SOURCES};
 use fwd_listeners::{Arrival, Listener};
 use fwd_monitors::{JournalEvent, ListenerKind, MemoryFor, MonitorPeer, Observer, StartFault};
 use fwd_msgpack::Limits;
+use fwd_output::PagedSource;
 use fwd_peers::{PeerAddress, PeerSocket, SourcePeer};
 use fwd_reader::{Connections, Peer, ReaderInboxes, Router};
+use fwd_run::SourceIds;
 use fwd_source::Source;
 use mio::{Poll, Registry, Token};
 use rand_chacha::ChaCha20Rng;
@@ -44,35 +47,37 @@ pub struct ListenConfig {
 }
 
 /// What a source that comes is given.
-pub struct SourceSetup {
+pub struct SourceSetup<J: Run> {
     /// What it has to prove.
     pub security: Arc<Security>,
     /// How long and how deep its values may be.
     pub limits: Limits,
     /// Where the random bytes of its handshake come from.
     pub nonces: ChaCha20Rng,
+    /// Under which ids sources come, in the history of the run.
+    pub ids: SourceIds<J>,
+    ghost proved: { ids.security ≡ Some (arc_value security) },
+    ghost limited: { ids.limits ≡ Some limits },
 }
 
 // A drop of its own is proved once, and not at each place where what sources are given goes.
-impl Drop for SourceSetup {
+impl<J: Run> Drop for SourceSetup<J> {
     fn drop(self) {
         let SourceSetup {
             security: _,
             limits: _,
             nonces: _,
+            ids: _,
         } = self;
     }
 }
 
-/// The listeners, and what a source that comes is given.
+/// The listeners.
 pub(crate) struct Acceptor {
     pub sources: Listener,
     pub monitors: Option<Listener>,
     /// Monitors are served the metrics page.
     pub has_metrics: bool,
-    pub setup: SourceSetup,
-    /// The id of the next source, while there is one: they rise from 1.
-    pub next_id: Option<u64>,
     /// The most sources at a time, of all readers together.
     pub limit: usize,
     /// There are several outputs: sources that wait at some leave places to those of others.
@@ -90,8 +95,6 @@ impl Drop for Acceptor {
             sources: _,
             monitors: _,
             has_metrics: _,
-            setup: _,
-            next_id: _,
             limit: _,
             has_other_outputs: _,
             none_idle: _,
@@ -105,11 +108,11 @@ impl Drop for Acceptor {
 pub(crate) struct Incoming<'a, 'p, 'r, J: Run> {
     pub alloc: Global,
     pub registry: &'a Registry,
-    pub connections: &'a mut Connections,
+    pub connections: &'a mut Connections<J>,
     /// Where sources of the reader in front may wait.
     pub router: &'p mut Router<'r, J>,
     /// The inboxes of all readers.
-    pub inboxes: &'a ReaderInboxes,
+    pub inboxes: &'a ReaderInboxes<J>,
     /// How long a source has to be silent that gives its place to a new one (milliseconds), if any
     /// does.
     pub idle_limit: Option<u64>,
@@ -120,28 +123,82 @@ pub(crate) struct Incoming<'a, 'p, 'r, J: Run> {
 impl<'a, 'p, 'r, J: Run> Incoming<'a, 'p, 'r, J> {
     /// A connection comes. Where the system or memory refuses it, which is the only error, it is
     /// dropped.
-    fn add(&mut self, connection: Peer) -> Result<(), AllocError> {
+    fn add(&mut self, connection: Peer<J>) -> Result<(), AllocError> {
         self.connections.add(self.registry, connection, self.now)
     }
 }
 
-impl SourceSetup {
-    /// The source of this id, before its first byte. Its random bytes are drawn for it alone. The
-    /// only error is out of memory.
-    fn source(&mut self, alloc: Global, id: u64) -> Result<Source, AllocError>
-        ensures own { IfOk result (λ source. source.live.setup.conn ≡ id) }
-        ensures security { IfOk result (λ source.
-            source.live.setup.security ≡ arc_value self.old.security) }
-        ensures limits { IfOk result (λ source. source.live.setup.limits ≡ self.old.limits) }
-        ensures nonce { IfOk result (λ source.
-            source.live.setup.nonces.nonce ≡ drawn 0 4 self.old.nonces) }
-        ensures auth { IfOk result (λ source.
-            source.live.setup.nonces.auth ≡ drawn 4 4 self.old.nonces) }
-        ensures moved { OnOk result (self.new.nonces ≡ moved 8 self.old.nonces) }
+impl<J: Run> SourceSetup<J> {
+    /// The source with the next id, before its first byte, and its page, if an id is left. Its
+    /// random bytes are drawn for it alone. The only error is out of memory.
+    fn source(&mut self, alloc: Global) -> Result<Option<PagedSource<J>>, AllocError>
+        ensures own { IfOk result (λ made. IfSome made (λ source.
+            self.old.ids.next ≡ Some source.live.setup.conn)) }
+        ensures once { IfOk result (λ made. IfSome made (λ source.
+            IfSome self.new.ids.next (λ next. source.live.setup.conn < next))) }
+        ensures live { IfOk result (λ made. IfSome made (λ source. source.live
+            ≡ opened_source (record {
+              conn = source.live.setup.conn;
+              security = arc_value self.old.security;
+              nonces = record {
+                nonce = drawn 0 4 self.old.nonces;
+                auth = drawn 4 4 self.old.nonces;
+              };
+              limits = self.old.limits;
+            }))) }
+        ensures moved { IfOk result (λ made. IfSome made (λ _.
+            self.new.nonces ≡ moved 8 self.old.nonces)) }
+        ensures later { IsNoLess self.old.ids.next self.new.ids.next }
     {
         let security = Arc::try_clone(&self.security)?;
         let nonces = Nonces::draw(&mut self.nonces);
-        Ok(Source::new(alloc, id, security, nonces, self.limits)?)
+        let Some(page) = self.ids.accept(nonces.nonce, nonces.auth) else {
+            return Ok(None);
+        };
+        let source = Source::new(alloc, page.id(), security, nonces, self.limits)?;
+        Ok(Some(PagedSource::new(page, source)))
+    }
+
+    /// A source with the next id, if one is left. The only error is out of memory.
+    fn next_source(
+        &mut self,
+        incoming: &Incoming<'_, '_, '_, J>,
+        socket: PeerSocket,
+        peer: PeerAddress,
+    ) -> Result<Option<SourcePeer<J>>, AllocError>
+        ensures own { IfOk result (λ made. IfSome made (λ source.
+            self.old.ids.next ≡ Some source.id)) }
+        ensures once { IfOk result (λ made. IfSome made (λ source.
+            IfSome self.new.ids.next (λ next. source.id < next))) }
+        ensures nonce { IfOk result (λ made. IfSome made (λ source.
+            source.live.setup.nonces.nonce ≡ drawn 0 4 self.old.nonces)) }
+        ensures moved { IfOk result (λ made. IfSome made (λ _.
+            self.new.nonces ≡ moved 8 self.old.nonces)) }
+        ensures later { IsNoLess self.old.ids.next self.new.ids.next }
+    {
+        let Some(source) = self.source(incoming.alloc)? else {
+            return Ok(None);
+        };
+        let source = SourcePeer::new(socket, peer, source, incoming.now);
+        Ok(Some(source))
+    }
+
+    /// A source begins with the next id, if one is left, at the reader with the fewest. The only
+    /// error is out of memory.
+    #[tactic(auto, using(crate::proofs::Ids::same))]
+    fn begin<R: Wait>(
+        &mut self,
+        rt: &R,
+        incoming: &Incoming<'_, '_, '_, J>,
+        socket: PeerSocket,
+        peer: PeerAddress,
+    ) -> Result<(), AllocError>
+        ensures { IsNoLess self.old.ids.next self.new.ids.next }
+    {
+        match self.next_source(incoming, socket, peer)? {
+            None => Ok(()),
+            Some(source) => incoming.inboxes.freest().hand(rt, source),
+        }
     }
 }
 
@@ -151,7 +208,6 @@ impl Acceptor {
         rt: &R,
         poll: &Poll,
         config: ListenConfig,
-        setup: SourceSetup,
     ) -> Result<Acceptor, StartFault> {
         let sources = Listener::open(rt, poll, config.listen, SOURCES)?;
         let monitors = match config.monitor {
@@ -165,8 +221,6 @@ impl Acceptor {
             sources,
             monitors,
             has_metrics: config.has_metrics,
-            setup,
-            next_id: Some(1),
             limit: config.connections as usize,
             has_other_outputs: config.has_other_outputs,
             none_idle: None,
@@ -213,9 +267,10 @@ impl Acceptor {
         &mut self,
         rt: &R,
         incoming: &mut Incoming<'_, '_, '_, J>,
+        setup: &mut SourceSetup<J>,
         observer: &mut W,
     ) -> bool
-        ensures { IsNoLess self.old.next_id self.new.next_id }
+        ensures { IsNoLess setup.old.ids.next setup.new.ids.next }
     {
         for _ in 0..ACCEPTS {
             let (socket, peer) = match self.sources.next() {
@@ -230,7 +285,7 @@ impl Acceptor {
             if is_full && !self.free_place(rt, incoming, observer) {
                 let listener = ListenerKind::Source;
                 observer.observe(JournalEvent::OverLimit { listener, peer });
-            } else if self.begin(rt, incoming, socket, peer).is_err() {
+            } else if setup.begin(rt, incoming, socket, peer).is_err() {
                 observer.observe(JournalEvent::Memory(MemoryFor::Source(peer)));
                 return true;
             }
@@ -247,9 +302,7 @@ impl Acceptor {
         rt: &R,
         incoming: &mut Incoming<'_, '_, '_, J>,
         observer: &mut W,
-    ) -> bool
-        ensures { self.new.next_id ≡ self.old.next_id }
-    {
+    ) -> bool {
         let inboxes = incoming.inboxes;
         let rule = PlaceRule {
             idle_limit: incoming.idle_limit,
@@ -266,63 +319,6 @@ impl Acceptor {
         self.none_idle = Some(incoming.now);
         inboxes.ask_others(rule.idle_limit.is_some(), rule.is_crowded);
         false
-    }
-
-    /// The id of the next source, if one is left. They rise, so that none is given twice.
-    #[tactic(auto, using(crate::proofs::Ids::same))]
-    fn give_id(&mut self) -> Option<u64>
-        ensures given { result ≡ self.old.next_id }
-        ensures rises { IfSome result (λ id. IfSome self.new.next_id (λ next. id < next)) }
-        ensures last { result ≡ None → self.new.next_id ≡ None }
-        ensures setup { self.new.setup ≡ self.old.setup }
-        ensures later { IsNoLess self.old.next_id self.new.next_id }
-    {
-        let id = self.next_id?;
-        self.next_id = id.checked_add(1);
-        Some(id)
-    }
-
-    /// A source with the next id, if one is left. The only error is out of memory.
-    fn next_source<J: Run>(
-        &mut self,
-        incoming: &Incoming<'_, '_, '_, J>,
-        socket: PeerSocket,
-        peer: PeerAddress,
-    ) -> Result<Option<SourcePeer>, AllocError>
-        ensures own { IfOk result (λ made. IfSome made (λ source.
-            self.old.next_id ≡ Some source.id)) }
-        ensures once { IfOk result (λ made. IfSome made (λ source.
-            IfSome self.new.next_id (λ next. source.id < next))) }
-        ensures nonce { IfOk result (λ made. IfSome made (λ source.
-            source.live.setup.nonces.nonce ≡ drawn 0 4 self.old.setup.nonces)) }
-        ensures moved { IfOk result (λ made. IfSome made (λ _.
-            self.new.setup.nonces ≡ moved 8 self.old.setup.nonces)) }
-        ensures later { IsNoLess self.old.next_id self.new.next_id }
-    {
-        let Some(id) = self.give_id() else {
-            return Ok(None);
-        };
-        let source = self.setup.source(incoming.alloc, id)?;
-        let source = SourcePeer::new(id, socket, peer, source, incoming.now);
-        Ok(Some(source))
-    }
-
-    /// A source begins with the next id, if one is left, at the reader with the fewest. The only
-    /// error is out of memory.
-    #[tactic(auto, using(crate::proofs::Ids::same))]
-    fn begin<J: Run, R: Wait>(
-        &mut self,
-        rt: &R,
-        incoming: &Incoming<'_, '_, '_, J>,
-        socket: PeerSocket,
-        peer: PeerAddress,
-    ) -> Result<(), AllocError>
-        ensures { IsNoLess self.old.next_id self.new.next_id }
-    {
-        match self.next_source(incoming, socket, peer)? {
-            None => Ok(()),
-            Some(source) => incoming.inboxes.freest().hand(rt, source),
-        }
     }
 
     /// Takes the monitors that wait. One too many is closed at once.

@@ -37,6 +37,7 @@ ghost use Rattle.std.specs.Prelude.{◌≡◌, ◌<◌, ◌≤◌, ◌+◌, ◌�
 ghost use Rattle.fwd_peers.specs.Peers.{asks};
 ghost use Rattle.fwd_turns.specs.Draining.{IfMore, IsDrained, left_of};
 
+use crate::acceptor::SourceSetup;
 use crate::reader::Reader;
 use crate::visiting::read_source;
 use fwd_history::Run;
@@ -123,8 +124,8 @@ fn after_read(stage: LeaveStage, count: usize, may_have_more: bool) -> LeaveStag
 /// Reads a source at a moment (milliseconds), as far as it has come, and says whether there may be
 /// more that is to be read. One of which that is dropped is over. None of its requests is given,
 /// and where some wait nothing is read.
-pub(crate) fn read_leaving(
-    source: &mut SourcePeer,
+pub(crate) fn read_leaving<J: Run>(
+    source: &mut SourcePeer<J>,
     alloc: Global,
     room: &mut [u8],
     to_end: bool,
@@ -154,8 +155,8 @@ pub(crate) fn read_leaving(
 
 /// The same of a source of which no request waits. Where it was told that no more comes, it is
 /// looked first what its stream has.
-fn read_last(
-    source: &mut SourcePeer,
+fn read_last<J: Run>(
+    source: &mut SourcePeer<J>,
     alloc: Global,
     room: &mut [u8],
     to_end: bool,
@@ -184,7 +185,13 @@ fn read_last(
 
 /// Reads a source at a moment (milliseconds), notes how far it has come, and says whether there may
 /// be more that is to be read.
-fn read_on(source: &mut SourcePeer, alloc: Global, room: &mut [u8], to_end: bool, now: u64) -> bool
+fn read_on<J: Run>(
+    source: &mut SourcePeer<J>,
+    alloc: Global,
+    room: &mut [u8],
+    to_end: bool,
+    now: u64,
+) -> bool
     ensures { source.new.live.admitted ≡ source.old.live.admitted }
 {
     let count = source.portion(room.len());
@@ -241,7 +248,7 @@ fn ahead_of(count: usize, room: usize, taken: usize) -> Ahead
 }
 
 /// Looks what a source's stream has, of which so many bytes were taken. It stays there.
-fn look_ahead(source: &SourcePeer, room: &mut [u8], taken: usize) -> Ahead {
+fn look_ahead<J: Run>(source: &SourcePeer<J>, room: &mut [u8], taken: usize) -> Ahead {
     match source.stream.socket.peek(room) {
         Ok(count) => ahead_of(count, room.len(), taken),
         Err(_) => ahead_of(0, room.len(), taken),
@@ -250,7 +257,7 @@ fn look_ahead(source: &SourcePeer, room: &mut [u8], taken: usize) -> Ahead {
 
 /// Whether what a source sent is dropped: it was told that no more comes, and asks for an
 /// acknowledgement.
-pub(crate) fn is_dropped(source: &SourcePeer) -> bool
+pub(crate) fn is_dropped<J: Run>(source: &SourcePeer<J>) -> bool
     ensures { result ≡ true → asks source.now ≡ true }
 {
     match source.leave_stage() {
@@ -260,7 +267,7 @@ pub(crate) fn is_dropped(source: &SourcePeer) -> bool
 }
 
 /// Visits each source of a reader that drains at a moment (milliseconds).
-pub(crate) fn sweep(connections: &mut Connections, now: u64) {
+pub(crate) fn sweep<J: Run>(connections: &mut Connections<J>, now: u64) {
     for key in 0..connections.key_limit() {
         match visit(connections, key, now) {
             LeaveStep::Begins | LeaveStep::Closes => connections.note_ready(key, false),
@@ -271,7 +278,7 @@ pub(crate) fn sweep(connections: &mut Connections, now: u64) {
 
 /// Visits the source of a key, if there is one, at a moment (milliseconds), and says what is left
 /// to do with it.
-fn visit(connections: &mut Connections, key: usize, now: u64) -> LeaveStep {
+fn visit<J: Run>(connections: &mut Connections<J>, key: usize, now: u64) -> LeaveStep {
     let Some(Peer::Source(source)) = connections.at(key) else {
         return LeaveStep::Rests;
     };
@@ -363,6 +370,7 @@ impl Drain {
         &mut self,
         rt: &R,
         reader: &mut Reader<'_, J, R>,
+        setup: &mut SourceSetup<J>,
         observer: &mut W,
         now: u64,
     ) {
@@ -373,7 +381,7 @@ impl Drain {
         let Some(deadline) = self.deadline else {
             return;
         };
-        let is_listening = !reader.accept_last(rt, observer, now);
+        let is_listening = !reader.accept_last(rt, setup, observer, now);
         reader.sweep(now);
         let seen = DrainSeen {
             is_listening,

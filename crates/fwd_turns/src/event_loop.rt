@@ -69,6 +69,14 @@ pub struct ReaderLimits {
     pub kept: u64,
 }
 
+/// Where sources that come go, and what they are given.
+#[derive(Drop)]
+pub(crate) struct Arrivals<'x, J: Run> {
+    /// The inboxes of all readers.
+    pub inboxes: &'x ReaderInboxes<J>,
+    pub setup: &'x mut SourceSetup<J>,
+}
+
 /// What tells a reader that waits for this poll.
 fn mailbox_of(alloc: Global, poll: &Poll, flags: &SharedFlags) -> Result<Mailbox, StartFault> {
     let waker = Waker::new(poll.registry(), WAKER).map_err(|_| StartFault::Poll)?;
@@ -76,7 +84,7 @@ fn mailbox_of(alloc: Global, poll: &Poll, flags: &SharedFlags) -> Result<Mailbox
 }
 
 /// Waits for connections, and reads and writes those that are ready.
-pub struct EventLoop {
+pub struct EventLoop<J: Run> {
     alloc: Global,
     poll: Poll,
     events: Events,
@@ -86,7 +94,7 @@ pub struct EventLoop {
     pub(crate) acceptor: Option<Acceptor>,
     /// The control socket, which the reader in front has where the settings name one.
     control: Option<Control>,
-    pub(crate) connections: Connections,
+    pub(crate) connections: Connections<J>,
     /// How long a source has to be silent that gives its place to a new one (milliseconds), if any
     /// does.
     idle_limit: Option<u64>,
@@ -95,7 +103,7 @@ pub struct EventLoop {
 }
 
 // A drop of its own is proved once, and not at each place where an event loop goes.
-impl Drop for EventLoop {
+impl<J: Run> Drop for EventLoop<J> {
     fn drop(self) {
         let EventLoop {
             alloc: _,
@@ -111,7 +119,7 @@ impl Drop for EventLoop {
     }
 }
 
-impl EventLoop {
+impl<J: Run> EventLoop<J> {
     /// A reader's loop before its first turn, without listeners, and what it is told by. It fails
     /// with `Poll` where the system has nothing to wait with, and with `Memory`.
     pub fn new<R: Net>(
@@ -119,7 +127,7 @@ impl EventLoop {
         alloc: Global,
         flags: &SharedFlags,
         limits: ReaderLimits,
-    ) -> Result<(EventLoop, Mailbox), StartFault> {
+    ) -> Result<(EventLoop<J>, Mailbox), StartFault> {
         let events = Events::with_capacity(alloc, EVENTS)?;
         let visitor = Visitor::new(alloc, LoopMemory::new(flags.share()?))?;
         let poll = Poll::new(rt).map_err(|_| StartFault::Poll)?;
@@ -143,9 +151,8 @@ impl EventLoop {
         &mut self,
         rt: &R,
         config: ListenConfig,
-        setup: SourceSetup,
     ) -> Result<(), StartFault> {
-        self.acceptor = Some(Acceptor::open(rt, &self.poll, config, setup)?);
+        self.acceptor = Some(Acceptor::open(rt, &self.poll, config)?);
         Ok(())
     }
 
@@ -171,11 +178,11 @@ impl EventLoop {
 
     /// Takes the connections that wait at the listeners, if it has them, at a moment
     /// (milliseconds), and hands the sources to readers.
-    pub(crate) fn accept<J: Run, R: Wait, W: Observer>(
+    pub(crate) fn accept<R: Wait, W: Observer>(
         &mut self,
         rt: &R,
         router: &mut Router<'_, J>,
-        inboxes: &ReaderInboxes,
+        arrivals: &mut Arrivals<'_, J>,
         observer: &mut W,
         now: u64,
     ) {
@@ -187,13 +194,13 @@ impl EventLoop {
             registry: self.poll.registry(),
             connections: &mut self.connections,
             router,
-            inboxes,
+            inboxes: arrivals.inboxes,
             idle_limit: self.idle_limit,
             now,
         };
         if self.visitor.memory.is_refused(now) {
             self.visitor.memory.is_paused |= acceptor.sources.is_urgent();
-        } else if acceptor.accept_sources(rt, &mut incoming, observer) {
+        } else if acceptor.accept_sources(rt, &mut incoming, arrivals.setup, observer) {
             self.visitor.memory.refuse(now);
         }
         acceptor.accept_monitors(&mut incoming, observer);
@@ -202,11 +209,11 @@ impl EventLoop {
 
     /// The same for a relay that was asked to stop: it takes all that wait, closes the listener of
     /// sources once none does, and says whether it is closed.
-    pub(crate) fn accept_last<J: Run, R: Wait, W: Observer>(
+    pub(crate) fn accept_last<R: Wait, W: Observer>(
         &mut self,
         rt: &R,
         router: &mut Router<'_, J>,
-        inboxes: &ReaderInboxes,
+        arrivals: &mut Arrivals<'_, J>,
         observer: &mut W,
         now: u64,
     ) -> bool {
@@ -214,7 +221,7 @@ impl EventLoop {
             Some(acceptor) if acceptor.sources.is_open() => acceptor.sources.notified(),
             _ => return true,
         }
-        self.accept(rt, router, inboxes, observer, now);
+        self.accept(rt, router, arrivals, observer, now);
         let Some(acceptor) = &mut self.acceptor else {
             return true;
         };
@@ -240,7 +247,7 @@ impl EventLoop {
     /// Takes a source that it was handed at a moment (milliseconds).
     pub(crate) fn take_source<W: Observer>(
         &mut self,
-        source: SourcePeer,
+        source: SourcePeer<J>,
         observer: &mut W,
         now: u64,
     ) {
@@ -283,7 +290,7 @@ impl EventLoop {
     }
 
     /// Hands in all tickets, and writes what that has sources told, at a moment (milliseconds).
-    pub(crate) fn finish<J: Run, R: Wait, W: Observer>(
+    pub(crate) fn finish<R: Wait, W: Observer>(
         &mut self,
         rt: &R,
         router: &mut Router<'_, J>,
@@ -306,7 +313,7 @@ impl EventLoop {
 
     /// Closes the connections that had their time at a moment (milliseconds), and have not shown
     /// what they are.
-    pub(crate) fn close_late<J: Run, R: Wait, W: Observer>(
+    pub(crate) fn close_late<R: Wait, W: Observer>(
         &mut self,
         rt: &R,
         router: &mut Router<'_, J>,
@@ -325,7 +332,7 @@ impl EventLoop {
 
     /// Closes the source that gives its place to a new one at a moment (milliseconds), if one does;
     /// sources that wait take more than their share, or not.
-    pub(crate) fn give_place<J: Run, R: Wait, W: Observer>(
+    pub(crate) fn give_place<R: Wait, W: Observer>(
         &mut self,
         rt: &R,
         router: &mut Router<'_, J>,
@@ -343,7 +350,7 @@ impl EventLoop {
 
     /// Waits from a moment on (milliseconds) until something is ready or told, and notes what is
     /// ready.
-    pub(crate) fn wait<J: Run>(
+    pub(crate) fn wait(
         &mut self,
         mailbox: &Mailbox,
         router: &Router<'_, J>,
@@ -416,7 +423,7 @@ impl EventLoop {
     }
 
     /// Writes what waits to be sent to each connection that is told, at a moment (milliseconds).
-    pub(crate) fn write_all<J: Run, R: Wait, W: Observer>(
+    pub(crate) fn write_all<R: Wait, W: Observer>(
         &mut self,
         rt: &R,
         router: &mut Router<'_, J>,
@@ -431,7 +438,7 @@ impl EventLoop {
     /// Writes what waits to be sent to the next connection that is told. A source of which requests
     /// wait is kept, as behind a visit that reads.
     #[tactic(auto, using(crate::proofs::Keeping::keeps, crate::proofs::Keeping::all_stand))]
-    fn write_next<J: Run, R: Wait, W: Observer>(
+    fn write_next<R: Wait, W: Observer>(
         &mut self,
         rt: &R,
         router: &mut Router<'_, J>,
@@ -450,7 +457,7 @@ impl EventLoop {
 
     /// What becomes of a connection behind a visit is noted, at a moment (milliseconds). One that
     /// is to be visited again stands in a queue then.
-    fn follow<J: Run, R: Wait>(
+    fn follow<R: Wait>(
         &mut self,
         rt: &R,
         router: &mut Router<'_, J>,
@@ -480,7 +487,7 @@ impl EventLoop {
     /// Reads each connection that is ready, once, and has what it asks for admitted: for some
     /// milliseconds, or until workers tell something, and those that are left in a later turn. As
     /// long as memory is refused no source is read, which is told when that begins.
-    pub(crate) fn read_all<J: Run, R: Wait + Clock, W: Observer>(
+    pub(crate) fn read_all<R: Wait + Clock, W: Observer>(
         &mut self,
         rt: &R,
         context: &mut ReadContext<'_, '_, J>,
@@ -501,7 +508,7 @@ impl EventLoop {
 
     /// Reads the next connection that is ready. A source of which a request waits that nobody sends
     /// again stays then, but where the relay refused one of its requests.
-    fn read_next<J: Run, R: Wait, W: Observer>(
+    fn read_next<R: Wait, W: Observer>(
         &mut self,
         rt: &R,
         context: &mut ReadContext<'_, '_, J>,

@@ -1,6 +1,7 @@
 //! What readers have an observer told: the reader in front sees it, and tells what the others'
 //! turns came to behind its own.
 
+use fwd_history::Run;
 use fwd_monitors::{JournalEvent, Observer, SharedTally};
 use fwd_reader::ReaderInboxes;
 use std::alloc::Global;
@@ -84,14 +85,14 @@ impl EventQueue {
 
 /// The observer of a reader that is not in front, which counts its events and tells them.
 #[derive(Drop)]
-pub(crate) struct QueueObserver<'q, 'a, R> {
+pub(crate) struct QueueObserver<'q, 'a, J: Run, R> {
     pub rt: &'q R,
     pub tally: &'a SharedTally,
     pub journal_events: &'a EventQueue,
-    pub inboxes: &'a ReaderInboxes,
+    pub inboxes: &'a ReaderInboxes<J>,
 }
 
-impl<'q, 'a, R: Wait> Observer for QueueObserver<'q, 'a, R> {
+impl<'q, 'a, J: Run, R: Wait> Observer for QueueObserver<'q, 'a, J, R> {
     fn observe(&mut self, event: JournalEvent) {
         self.tally.observe(self.rt, event);
         self.journal_events.put(self.rt, event);

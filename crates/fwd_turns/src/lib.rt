@@ -23,4 +23,4 @@ pub use event_loop::{EventLoop, ReaderLimits};
 pub use event_queue::EventQueue;
 pub use front_reader::{FrontReader, PageMaker};
 pub use reader::{ReaderParts, Surroundings};
-pub use turns::{Turns, close_all};
+pub use turns::{FrontTurns, Turns, close_all};

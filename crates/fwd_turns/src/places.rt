@@ -58,7 +58,7 @@ pub(crate) struct PlaceRule {
 
 impl PlaceRule {
     /// The key of the source that gives its place, if one does.
-    fn choice(self, connections: &Connections) -> Option<usize>
+    fn choice<J: Run>(self, connections: &Connections<J>) -> Option<usize>
         ensures reason { IfSome result (λ key. ((limit : ℕ) × (self.idle_limit ≡ Some limit)
             × IsIdlest connections.now limit self.now key) ⊎ IsCrowding connections.now key) }
         ensures none { self.idle_limit ≡ None → self.is_crowded ≡ false → result ≡ None }
@@ -80,7 +80,7 @@ impl PlaceRule {
 /// Closes the source that gives its place, and says whether one does.
 pub(crate) fn free_place<J: Run, R: Wait, W: Observer>(
     rt: &R,
-    connections: &mut Connections,
+    connections: &mut Connections<J>,
     router: &mut Router<'_, J>,
     observer: &mut W,
     rule: PlaceRule,
@@ -95,7 +95,7 @@ pub(crate) fn free_place<J: Run, R: Wait, W: Observer>(
 }
 
 /// Why the source of a key gives its place: it is idle, or waits at an output, which is full.
-fn reason_for(connections: &mut Connections, key: usize) -> CloseReason {
+fn reason_for<J: Run>(connections: &mut Connections<J>, key: usize) -> CloseReason {
     let Some(Peer::Source(source)) = connections.at(key) else {
         return CloseReason::Idle;
     };
@@ -106,8 +106,8 @@ fn reason_for(connections: &mut Connections, key: usize) -> CloseReason {
 }
 
 /// The connection of a key is about to go, and an observer is told why, where it is a source.
-pub(crate) fn tell_closed<W: Observer>(
-    connections: &mut Connections,
+pub(crate) fn tell_closed<J: Run, W: Observer>(
+    connections: &mut Connections<J>,
     key: usize,
     why: CloseReason,
     observer: &mut W,
@@ -121,7 +121,7 @@ pub(crate) fn tell_closed<W: Observer>(
 /// The connection of a key waits at no output any more.
 fn leave<J: Run, R: Wait>(
     rt: &R,
-    connections: &mut Connections,
+    connections: &mut Connections<J>,
     router: &mut Router<'_, J>,
     key: usize,
 )
@@ -138,7 +138,7 @@ fn leave<J: Run, R: Wait>(
 #[tactic(auto, using(crate::proofs::Keeping::gone_then))]
 pub(crate) fn part<J: Run, R: Wait>(
     rt: &R,
-    connections: &mut Connections,
+    connections: &mut Connections<J>,
     router: &mut Router<'_, J>,
     key: usize,
 )

@@ -2,14 +2,18 @@
 //! nonces are drawn in the order in which sources come. A ticket never leaves its reader, so that a
 //! receipt meets its own connections.
 
+ghost use Rattle.std.specs.Prelude.{◌≡◌, Some};
+ghost use Rattle.fwd_run.specs.Runs.{routes_at};
+
+use crate::acceptor::SourceSetup;
 use crate::draining;
-use crate::event_loop::{EventLoop, ReadContext};
+use crate::event_loop::{Arrivals, EventLoop, ReadContext};
 use fwd_history::Run;
 use fwd_links::{Mailbox, Notices, RunClock, unix_seconds};
 use fwd_match::Routes;
 use fwd_monitors::{Figures, Observer, ProcessFigures, SharedTally, StartFault};
-use fwd_output::ReachedHistory;
 use fwd_reader::{FlushTimer, Output, PageParts, ReaderInbox, ReaderInboxes, Router, RouterParts};
+use fwd_run::ReachedHistory;
 use std::alloc::{AllocError, Global};
 use std::rt::Clock;
 use std::sync::Wait;
@@ -23,14 +27,14 @@ const COLLECTING: u64 = 4;
 const ROUNDS: u16 = 1_024;
 
 /// What a reader has of its own, before its first turn.
-pub struct ReaderParts {
-    pub event_loop: EventLoop,
+pub struct ReaderParts<J: Run> {
+    pub event_loop: EventLoop<J>,
     /// The timer of each output's flushes.
     pub timers: Vec<FlushTimer>,
 }
 
 // A drop of its own is proved once, and not at each place where a reader's parts go.
-impl Drop for ReaderParts {
+impl<J: Run> Drop for ReaderParts<J> {
     fn drop(self) {
         let ReaderParts {
             event_loop: _,
@@ -49,21 +53,22 @@ pub(crate) struct Pages {
 }
 
 /// The outputs, which all readers share, and where a reader stands among these.
-#[derive_where(Clone, Copy)]
+#[derive(Drop)]
 pub struct Surroundings<'a, J: Run> {
     pub alloc: Global,
     pub routes: &'a Routes,
     pub outputs: &'a [Output<J>],
     /// What all readers count.
     pub tally: &'a SharedTally,
-    pub inboxes: &'a ReaderInboxes,
+    pub inboxes: &'a ReaderInboxes<J>,
     /// This reader's.
-    pub inbox: &'a ReaderInbox,
+    pub inbox: &'a ReaderInbox<J>,
     /// The reader's number, from 0.
     pub number: usize,
     pub start: Option<Instant>,
     /// The history of the run as far as it is known, for the proof.
     pub reached: &'a ReachedHistory<J>,
+    ghost routed: { routes_at reached.now ≡ Some routes.now },
 }
 
 /// A reader: its own connections, and the tickets of their requests, over outputs that all readers
@@ -72,12 +77,12 @@ pub(crate) struct Reader<'a, J: Run, R: Clock> {
     pub alloc: Global,
     pub outputs: &'a [Output<J>],
     pub tally: &'a SharedTally,
-    pub inboxes: &'a ReaderInboxes,
+    pub inboxes: &'a ReaderInboxes<J>,
     /// This reader's.
-    inbox: &'a ReaderInbox,
+    inbox: &'a ReaderInbox<J>,
     /// Where workers tell this reader what they did.
     pub mailbox: &'a Mailbox,
-    pub event_loop: &'a mut EventLoop,
+    pub event_loop: &'a mut EventLoop<J>,
     router: Router<'a, J>,
     clock: RunClock<'a, R>,
     /// When it was made, in whole seconds since 1970, if the system's clock could be read.
@@ -89,7 +94,7 @@ impl<'a, J: Run, R: Wait + Clock> Reader<'a, J, R> {
     pub fn new(
         rt: &'a R,
         around: Surroundings<'a, J>,
-        parts: &'a mut ReaderParts,
+        parts: &'a mut ReaderParts<J>,
     ) -> Result<Reader<'a, J, R>, AllocError> {
         let Surroundings {
             alloc,
@@ -108,7 +113,7 @@ impl<'a, J: Run, R: Wait + Clock> Reader<'a, J, R> {
             routes,
             outputs,
             timers,
-            reached: reached.with(reached),
+            reached: reached.again(),
         };
         let router = Router::new(rt, alloc, parts)?;
         Ok(Reader {
@@ -149,12 +154,21 @@ impl<'a, J: Run, R: Wait + Clock> Reader<'a, J, R> {
         }
     }
 
-    /// Takes the connections that wait at the listeners, if it has them, at a moment
-    /// (milliseconds).
-    pub fn accept<W: Observer>(&mut self, rt: &R, observer: &mut W, now: u64) {
+    /// Takes the connections that wait at the listeners, at a moment (milliseconds).
+    pub fn accept<W: Observer>(
+        &mut self,
+        rt: &R,
+        setup: &mut SourceSetup<J>,
+        observer: &mut W,
+        now: u64,
+    ) {
         self.note();
+        let mut arrivals = Arrivals {
+            inboxes: self.inboxes,
+            setup,
+        };
         self.event_loop
-            .accept(rt, &mut self.router, self.inboxes, observer, now);
+            .accept(rt, &mut self.router, &mut arrivals, observer, now);
     }
 
     /// Closes the connections that had their time at a moment (milliseconds), and have not shown
@@ -194,10 +208,20 @@ impl<'a, J: Run, R: Wait + Clock> Reader<'a, J, R> {
 
     /// Takes the last sources of a relay that was asked to stop, at a moment (milliseconds), and
     /// says whether the listener is closed.
-    pub fn accept_last<W: Observer>(&mut self, rt: &R, observer: &mut W, now: u64) -> bool {
+    pub fn accept_last<W: Observer>(
+        &mut self,
+        rt: &R,
+        setup: &mut SourceSetup<J>,
+        observer: &mut W,
+        now: u64,
+    ) -> bool {
         self.note();
+        let mut arrivals = Arrivals {
+            inboxes: self.inboxes,
+            setup,
+        };
         self.event_loop
-            .accept_last(rt, &mut self.router, self.inboxes, observer, now)
+            .accept_last(rt, &mut self.router, &mut arrivals, observer, now)
     }
 
     /// Visits each source where the relay was asked to stop, at a moment (milliseconds).

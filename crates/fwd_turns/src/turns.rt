@@ -5,6 +5,7 @@
 ghost use Rattle.std.specs.Prelude.{IfOk};
 ghost use Rattle.fwd_reader.specs.Ends.{AddUp};
 
+use crate::acceptor::SourceSetup;
 use crate::event_queue::{EventQueue, QueueObserver};
 use crate::front_reader::{FrontReader, PageMaker};
 use crate::reader::{Pages, Reader, ReaderParts, Surroundings};
@@ -38,7 +39,7 @@ impl<'a, J: Run, R: Wait + Clock> Turns<'a, J, R> {
     pub fn new(
         rt: &'a R,
         around: Surroundings<'a, J>,
-        parts: &'a mut ReaderParts,
+        parts: &'a mut ReaderParts<J>,
         journal_events: &'a EventQueue,
         front: Option<FrontReader<'a>>,
     ) -> Result<Turns<'a, J, R>, StartFault> {
@@ -62,49 +63,27 @@ impl<'a, J: Run, R: Wait + Clock> Turns<'a, J, R> {
     ///
     /// What it comes to is counted, and told in front. It fails with `Poll` where the wait failed.
     pub fn turn(&mut self, rt: &R) -> Result<(), StartFault> {
-        if self.front.is_some() {
-            self.turn_watched(rt, &mut ())
-        } else {
-            self.turn_queued(rt)
-        }
-    }
-
-    /// The same behind the reader in front, which is told what the turn comes to.
-    fn turn_queued(&mut self, rt: &R) -> Result<(), StartFault> {
         let mut observer = QueueObserver {
             rt,
             tally: self.reader.tally,
             journal_events: self.journal_events,
             inboxes: self.reader.inboxes,
         };
-        self.turn_told(rt, &mut observer)
-    }
-
-    /// The same in front, and an observer is told what the turn comes to, and what the other
-    /// readers' came to.
-    pub fn turn_watched<W: Observer>(
-        &mut self,
-        rt: &R,
-        observer: &mut W,
-    ) -> Result<(), StartFault> {
-        let mut counted = TallyObserver {
-            rt,
-            tally: self.reader.tally,
-            observer: &mut *observer,
-        };
-        self.turn_told(rt, &mut counted)?;
-        self.journal_events.tell(rt, self.reader.alloc, observer);
-        observer.turned();
-        Ok(())
+        self.turn_told(rt, None, &mut observer)
     }
 
     /// A turn, of which an observer is told that counts.
-    fn turn_told<W: Observer>(&mut self, rt: &R, observer: &mut W) -> Result<(), StartFault> {
+    fn turn_told<W: Observer>(
+        &mut self,
+        rt: &R,
+        setup: Option<&mut SourceSetup<J>>,
+        observer: &mut W,
+    ) -> Result<(), StartFault> {
         self.reader.wait()?;
         let now = self.reader.moment();
         self.answer(rt, observer, now);
         self.read(rt, observer, now);
-        self.tend(rt, observer, now);
+        self.tend(rt, setup, observer, now);
         let now = self.reader.moment();
         self.reader.flush(rt, observer, now);
         self.reader.pass_on();
@@ -134,18 +113,32 @@ impl<'a, J: Run, R: Wait + Clock> Turns<'a, J, R> {
         self.reader.read(rt, observer, pages);
     }
 
-    /// Takes new connections and closes those that had their time, at a moment (milliseconds), and
-    /// goes on with a stop that was asked for.
-    fn tend<W: Observer>(&mut self, rt: &R, observer: &mut W, now: u64) {
-        let reader = &mut self.reader;
-        reader.accept(rt, observer, now);
-        reader.take_sources(rt, observer, now);
-        reader.close_late(rt, observer, now);
-        reader.give_place(rt, observer, now);
-        match &mut self.front {
-            Some(front) => front.drain.tend(rt, reader, observer, now),
-            None => reader.sweep(now),
+    /// In front takes new connections; closes those that had their time, at a moment
+    /// (milliseconds), and goes on with a stop that was asked for.
+    fn tend<W: Observer>(
+        &mut self,
+        rt: &R,
+        setup: Option<&mut SourceSetup<J>>,
+        observer: &mut W,
+        now: u64,
+    ) {
+        let Some(setup) = setup else {
+            self.go_on(rt, observer, now);
+            return self.reader.sweep(now);
+        };
+        self.reader.accept(rt, setup, observer, now);
+        self.go_on(rt, observer, now);
+        if let Some(front) = &mut self.front {
+            front.drain.tend(rt, &mut self.reader, setup, observer, now);
         }
+    }
+
+    /// Takes the sources that it was handed, and closes those that had their time, at a moment
+    /// (milliseconds).
+    fn go_on<W: Observer>(&mut self, rt: &R, observer: &mut W, now: u64) {
+        self.reader.take_sources(rt, observer, now);
+        self.reader.close_late(rt, observer, now);
+        self.reader.give_place(rt, observer, now);
     }
 
     /// So many turns, or until all are to end. Where a turn fails, all are to end.
@@ -162,70 +155,9 @@ impl<'a, J: Run, R: Wait + Clock> Turns<'a, J, R> {
         Ok(())
     }
 
-    /// So many turns in front, of which an observer is told, and first where the relay listens. It
-    /// ends sooner where another reader failed, and where the relay was asked to stop and has
-    /// nothing left to do, or no time.
-    pub fn run_watched<W: Observer>(
-        &mut self,
-        rt: &R,
-        observer: &mut W,
-        turns: u64,
-    ) -> Result<(), StartFault> {
-        self.reader.tell(observer);
-        for _ in 0..turns {
-            self.turn_watched(rt, observer)?;
-            if self.reader.is_stopped() || self.is_drained() {
-                break;
-            }
-        }
-        Ok(())
-    }
-
-    /// What makes pages in a thread of its own, where monitors are listened for.
-    pub fn page_maker(&self) -> Option<PageMaker<'a, J>> {
-        let front = self.front.as_ref()?;
-        front.page_maker(&self.reader)
-    }
-
-    /// Pages are ordered from that thread from now on.
-    pub fn order_pages(&mut self) {
-        if let Some(front) = &mut self.front {
-            front.are_pages_ordered = true;
-        }
-    }
-
-    /// Whether the relay was asked to stop, and has nothing left to do, or no time, as the reader
-    /// in front knows.
-    pub fn is_drained(&self) -> bool {
-        self.front.as_ref().is_some_and(|it| it.drain.is_over())
-    }
-
-    /// What each output has to do with at this moment, in all and of each tag, in the settings'
-    /// order. The only error is out of memory.
-    pub fn reports(&self, rt: &R) -> Result<Vec<Report>, StartFault>
-        ensures add_up { IfOk result (λ reports. AddUp reports.items) }
-    {
-        Ok(reports_of(rt, self.reader.alloc, self.reader.outputs)?)
-    }
-
-    /// All readers and all workers are to end.
-    pub fn stop(&self) {
-        self.reader.mailbox.stop();
-        self.reader.inboxes.call_all();
-    }
-
     /// Hands in all tickets, writes what that has sources told, and abandons the tickets that are
     /// left. The connections stay.
     pub fn close(self, rt: &R) {
-        if self.front.is_some() {
-            self.close_watched(rt, &mut ());
-        } else {
-            self.close_queued(rt);
-        }
-    }
-
-    /// The same behind the reader in front, which is told what that comes to.
-    fn close_queued(self, rt: &R) {
         let Turns {
             reader,
             journal_events,
@@ -241,13 +173,119 @@ impl<'a, J: Run, R: Wait + Clock> Turns<'a, J, R> {
         reader.close(rt, &mut observer);
     }
 
-    /// The same in front, of which an observer is told, and of what the other readers told.
+    /// All readers and all workers are to end.
+    pub fn stop(&self) {
+        self.reader.mailbox.stop();
+        self.reader.inboxes.call_all();
+    }
+}
+
+/// The turns of the reader in front of a relay, which takes the sources that come. They must be
+/// spent: by `close`. What gives sources their ids stays in the thread that makes these turns.
+pub struct FrontTurns<'a, J: Run, R: Clock> {
+    turns: Turns<'a, J, R>,
+    setup: &'a mut SourceSetup<J>,
+}
+
+impl<'a, J: Run, R: Wait + Clock> FrontTurns<'a, J, R> {
+    /// Those turns, and what sources that come are given.
+    pub fn new(turns: Turns<'a, J, R>, setup: &'a mut SourceSetup<J>) -> FrontTurns<'a, J, R> {
+        FrontTurns { turns, setup }
+    }
+
+    /// One turn, as `Turns::turn`.
+    pub fn turn(&mut self, rt: &R) -> Result<(), StartFault> {
+        self.turn_watched(rt, &mut ())
+    }
+
+    /// The same, and an observer is told what the turn comes to, and what the other readers' came
+    /// to.
+    pub fn turn_watched<W: Observer>(
+        &mut self,
+        rt: &R,
+        observer: &mut W,
+    ) -> Result<(), StartFault> {
+        let mut counted = TallyObserver {
+            rt,
+            tally: self.turns.reader.tally,
+            observer: &mut *observer,
+        };
+        self.turns
+            .turn_told(rt, Some(&mut *self.setup), &mut counted)?;
+        self.turns
+            .journal_events
+            .tell(rt, self.turns.reader.alloc, observer);
+        observer.turned();
+        Ok(())
+    }
+
+    /// So many turns in front, of which an observer is told, and first where the relay listens. It
+    /// ends sooner where another reader failed, and where the relay was asked to stop and has
+    /// nothing left to do, or no time.
+    pub fn run_watched<W: Observer>(
+        &mut self,
+        rt: &R,
+        observer: &mut W,
+        turns: u64,
+    ) -> Result<(), StartFault> {
+        self.turns.reader.tell(observer);
+        for _ in 0..turns {
+            self.turn_watched(rt, observer)?;
+            if self.turns.reader.is_stopped() || self.is_drained() {
+                break;
+            }
+        }
+        Ok(())
+    }
+
+    /// What makes pages in a thread of its own, where monitors are listened for.
+    pub fn page_maker(&self) -> Option<PageMaker<'a, J>> {
+        let front = self.turns.front.as_ref()?;
+        front.page_maker(&self.turns.reader)
+    }
+
+    /// Pages are ordered from that thread from now on.
+    pub fn order_pages(&mut self) {
+        if let Some(front) = &mut self.turns.front {
+            front.are_pages_ordered = true;
+        }
+    }
+
+    /// Whether the relay was asked to stop, and has nothing left to do, or no time, as the reader
+    /// in front knows.
+    pub fn is_drained(&self) -> bool {
+        self.turns
+            .front
+            .as_ref()
+            .is_some_and(|it| it.drain.is_over())
+    }
+
+    /// What each output has to do with at this moment, in all and of each tag, in the settings'
+    /// order. The only error is out of memory.
+    pub fn reports(&self, rt: &R) -> Result<Vec<Report>, StartFault>
+        ensures add_up { IfOk result (λ reports. AddUp reports.items) }
+    {
+        Ok(reports_of(rt, self.turns.reader.alloc, self.turns.reader.outputs)?)
+    }
+
+    /// All readers and all workers are to end.
+    pub fn stop(&self) {
+        self.turns.stop();
+    }
+
+    /// As `Turns::close`.
+    pub fn close(self, rt: &R) {
+        self.close_watched(rt, &mut ());
+    }
+
+    /// The same, and an observer is told of it, and of what the other readers told.
     pub fn close_watched<W: Observer>(self, rt: &R, observer: &mut W) {
+        let FrontTurns { turns, setup: _ } = self;
         let Turns {
             reader,
             journal_events,
             front,
-        } = self;
+        } = turns;
         drop(front);
         let alloc = reader.alloc;
         reader.close(rt, observer);

@@ -107,8 +107,8 @@ impl Visited {
 
 /// Writes what waits to be sent to a source, and says what becomes of it: there may be more to be
 /// read, some of its requests wait longer, and the system told that it closed.
-pub(crate) fn after_visit(
-    source: &mut SourcePeer,
+pub(crate) fn after_visit<J: Run>(
+    source: &mut SourcePeer<J>,
     may_have_more: bool,
     waits: bool,
     is_closing: bool,
@@ -132,8 +132,8 @@ pub(crate) fn after_visit(
 /// The same of a connection that may be written: nothing is read, and an observer is told why the
 /// relay ends it, where it does. A monitor is visited again, which writes.
 #[tactic(auto, using(crate::proofs::Keeping::visits))]
-pub(crate) fn write_at<W: Observer>(
-    connections: &mut Connections,
+pub(crate) fn write_at<J: Run, W: Observer>(
+    connections: &mut Connections<J>,
     ready: Ready,
     observer: &mut W,
 ) -> After
@@ -148,7 +148,11 @@ pub(crate) fn write_at<W: Observer>(
 }
 
 /// The same, where the connection is at hand.
-fn write_peer<W: Observer>(connection: &mut Peer, is_closing: bool, observer: &mut W) -> After
+fn write_peer<J: Run, W: Observer>(
+    connection: &mut Peer<J>,
+    is_closing: bool,
+    observer: &mut W,
+) -> After
     ensures stands { (source : PeerShown) → connection.old ≡ Source source
         → IsWith source connection.new }
     ensures keeps { (source : PeerShown) → connection.old ≡ Source source
@@ -165,7 +169,7 @@ fn write_peer<W: Observer>(connection: &mut Peer, is_closing: bool, observer: &m
 
 /// The same of a source.
 #[tactic(auto, using(crate::proofs::Keeping::writes_keep, crate::proofs::Keeping::stays_waiting))]
-fn write_source(source: &mut SourcePeer, is_closing: bool) -> After
+fn write_source<J: Run>(source: &mut SourcePeer<J>, is_closing: bool) -> After
     ensures waiting { source.new.live.waiting ≡ source.old.live.waiting }
     ensures keeps { waits_unasked source.old ≡ true → result ≢ After.Goes }
 {
@@ -175,8 +179,8 @@ fn write_source(source: &mut SourcePeer, is_closing: bool) -> After
 
 /// Reads a source at a moment (milliseconds), and says whether there may be more. One of which
 /// requests wait is not read before they are admitted.
-pub(crate) fn read_source(
-    source: &mut SourcePeer,
+pub(crate) fn read_source<J: Run>(
+    source: &mut SourcePeer<J>,
     alloc: Global,
     room: &mut [u8],
     to_end: bool,
@@ -199,7 +203,7 @@ pub(crate) fn read_source(
 }
 
 /// A source that has yet to log in and sent more than a PING may have is over.
-fn judge(source: &mut SourcePeer)
+fn judge<J: Run>(source: &mut SourcePeer<J>)
     ensures { source.new ≡ judged source.old }
 {
     if source.is_too_long() {
@@ -233,7 +237,7 @@ pub(crate) fn serve_monitor<J: Run, R: Wait>(
 
 /// Notes a connection of which the system told. Where it tells only that the connection takes bytes
 /// again, there is nothing to be read.
-pub(crate) fn note(connections: &mut Connections, key: usize, event: &Event) {
+pub(crate) fn note<J: Run>(connections: &mut Connections<J>, key: usize, event: &Event) {
     let is_closing = event.is_read_closed() || event.is_error();
     if event.is_readable() || is_closing {
         connections.note_ready(key, is_closing);
@@ -244,7 +248,7 @@ pub(crate) fn note(connections: &mut Connections, key: usize, event: &Event) {
 
 /// An observer is told why the relay ends a source, where it does and that was not told yet. It
 /// says whether that is for want of memory.
-pub(crate) fn tell_end<W: Observer>(source: &mut SourcePeer, observer: &mut W) -> bool
+pub(crate) fn tell_end<J: Run, W: Observer>(source: &mut SourcePeer<J>, observer: &mut W) -> bool
     ensures told { result ≡ is_for_memory source.old.why }
     ensures once { source.new ≡ record source.old { why = None } }
 {

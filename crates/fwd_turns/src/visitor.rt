@@ -5,7 +5,7 @@ ghost use Rattle.fwd_peers.specs.Peers.{PeerShown};
 ghost use Rattle.fwd_reader.specs.Admissions.{AdmitsAndWaits};
 ghost use Rattle.fwd_reader.specs.OpenConnections.{connection_at};
 ghost use Rattle.fwd_reader.specs.declared.peer.Peer.TheVariants.{Source};
-ghost use Rattle.fwd_turns.specs.Keeping.{IsDone, IsReadAt, IsReadTo, ReadsAndServes};
+ghost use Rattle.fwd_turns.specs.Keeping.{IsDone, IsReadAt, IsReadFrom, IsReadTo, ReadsAndServes};
 
 use crate::draining::{is_dropped, read_leaving};
 use crate::event_loop::ReadContext;
@@ -48,7 +48,7 @@ impl Visitor {
         &mut self,
         rt: &R,
         context: &mut ReadContext<'_, '_, J>,
-        connections: &mut Connections,
+        connections: &mut Connections<J>,
         ready: Ready,
         observer: &mut W,
     ) -> After
@@ -66,7 +66,7 @@ impl Visitor {
         &mut self,
         rt: &R,
         context: &mut ReadContext<'_, '_, J>,
-        connection: &mut Peer,
+        connection: &mut Peer<J>,
         to_end: bool,
         observer: &mut W,
     ) -> After
@@ -103,12 +103,12 @@ impl Visitor {
         &mut self,
         rt: &R,
         context: &mut ReadContext<'_, '_, J>,
-        source: &mut SourcePeer,
+        source: &mut SourcePeer<J>,
         to_end: bool,
         observer: &mut W,
     ) -> After
-        ensures { IsReadTo context.old.router.now source.old result context.new.router.now
-            (Source source.new) }
+        ensures { IsReadFrom context.old.router.now source.old result context.new.router.now
+            source.new }
     {
         if self.memory.is_refused(context.now) {
             self.memory.is_paused = true;
@@ -123,7 +123,7 @@ impl Visitor {
         &mut self,
         rt: &R,
         context: &mut ReadContext<'_, '_, J>,
-        source: &mut SourcePeer,
+        source: &mut SourcePeer<J>,
         to_end: bool,
         observer: &mut W,
     ) -> After
@@ -145,7 +145,7 @@ impl Visitor {
 fn admit_waiting<J: Run, R: Wait>(
     rt: &R,
     router: &mut Router<'_, J>,
-    source: &mut SourcePeer,
+    source: &mut SourcePeer<J>,
     now: u64,
 ) -> bool
     ensures waits { result ≡ true

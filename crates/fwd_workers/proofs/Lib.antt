@@ -6,3 +6,4 @@ pub mod Taking
 pub mod Keeping
 pub mod Earning
 pub mod Earned
+pub mod Placing

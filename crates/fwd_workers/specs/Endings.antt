@@ -78,11 +78,13 @@ unmet_of link.Unreachable = unmet.Link link.Unreachable
 abbrev pub blamed : NoSession → (server : ℕ) → Option ℕ
 blamed (unmet.Link fault) server = Some server
 blamed unmet.Memory server = None
+blamed unmet.Unknown server = None
 
 -- what is told of that: a session with that server could not be had, and why; it had no chunk
 abbrev pub unmet_news : NoSession → (server : ℕ) → Option WorkerEvent
 unmet_news (unmet.Link fault) server = Some (event.Lost server (loss.Link fault) 0)
 unmet_news unmet.Memory server = Some (event.Lost server loss.Memory 0)
+unmet_news unmet.Unknown server = None
 
 -- what is told where a chunk is loaded: the server that it goes to, where the worker's last one
 -- went to another

@@ -99,6 +99,8 @@ pub(crate) enum NoSession {
     Link(LinkFault),
     /// Memory was refused.
     Memory,
+    /// The output has no such server.
+    Unknown,
 }
 
 impl NoSession {
@@ -115,15 +117,17 @@ impl NoSession {
     /// What a worker leaves that may have taken a chunk for that server: the chunk, which is no
     /// loss, and the server, if that is to blame.
     pub(crate) fn leaving(self, alloc: Global, taken: Option<Carried>, server: u16) -> Leaving
+        ensures kind { result.kind ≡ EndKind.Lost }
         ensures taken { result.taken ≡ taken }
         ensures loaded { result.loaded.items ≡ [] }
         ensures server { result.server ≡ blamed self server }
     {
         let server = match self {
             NoSession::Link(_) => Some(server),
-            NoSession::Memory => None,
+            NoSession::Memory | NoSession::Unknown => None,
         };
         Leaving {
+            kind: EndKind::Lost,
             taken,
             loaded: Vec::new(alloc),
             server,
@@ -137,6 +141,7 @@ impl NoSession {
         match self {
             NoSession::Link(fault) => EndReason::Lost(LossReason::Link(fault)).event(server, 0),
             NoSession::Memory => EndReason::Lost(LossReason::Memory).event(server, 0),
+            NoSession::Unknown => None,
         }
     }
 }

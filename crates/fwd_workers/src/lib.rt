@@ -8,6 +8,7 @@ mod gating;
 mod laws;
 mod next_chunk;
 mod own_session;
+mod placed_worker;
 mod refused;
 mod serve;
 mod turn_context;
@@ -25,5 +26,6 @@ pub use fwd_output::{
     open,
 };
 pub use laws::served_bytes_are_the_links;
+pub use placed_worker::PlacedWorker;
 pub use serve::{Served, serve_gathered, serve_turn};
-pub use worker::{Worker, WorkerEnd};
+pub use worker::{SessionTerms, WorkerEnd};

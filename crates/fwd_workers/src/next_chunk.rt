@@ -3,9 +3,11 @@
 ghost use Rattle.std.specs.Prelude.{◌≡◌, IfSome, is_some, option_map};
 ghost use Rattle.fwd_output.specs.Elsewhere.{away_from, has_server, way_over};
 ghost use Rattle.fwd_output.specs.Looks.{IsForUse};
+ghost use Rattle.fwd_output.specs.Paged.{MayTake, Takes, taken_of};
 
 use crate::turn_context::TurnContext;
 use fwd_output::{ChunkSearch, ChunkUse, Found, Look, Offer, ServerView, Tally};
+use fwd_run::WorkerPage;
 use std::alloc::Global;
 use std::sync::Wait;
 
@@ -23,20 +25,22 @@ pub(crate) fn look_for<A: Tally, S: Tally, R: Wait>(
     context: &TurnContext<'_, A, S, R>,
     alloc: Global,
     seat: &mut S::Seat,
-    worker: u16,
+    page: &mut WorkerPage<A::Run>,
     chunk_use: ChunkUse,
 ) -> Sight
+    requires { MayTake page.old page.old.output }
+    ensures takes { Takes page.old (taken_of result.found) page.new }
     ensures fits { IsForUse result.found result.view chunk_use }
     ensures same { seat.new ≡ seat.old }
 {
     let search = ChunkSearch {
-        worker,
+        worker: page.worker(),
         chunk_use,
         leaves_open: context.leaves_open,
     };
     let Look { view, found } = context
         .out
-        .look_for(context.rt, alloc, seat, search, context.now);
+        .look_for(context.rt, alloc, seat, page, search, context.now);
     match found {
         Ok(found) => Sight { view, found },
         Err(_) => Sight {

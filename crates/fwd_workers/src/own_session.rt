@@ -31,6 +31,7 @@ ghost use Rattle.fwd_session.specs.Live.{
   session_unloads,
 };
 ghost use Rattle.fwd_session.specs.ServerAcks.{IsBacked};
+ghost use Rattle.fwd_workers.specs.Placed.{IsFirst};
 
 use fwd_chunks::Carried;
 use fwd_session::{Acked, LoadFailed, NotUp, Session};
@@ -155,6 +156,7 @@ impl OwnSession {
         ensures chunk { option_map (λ pair. pair.1) result ≡ live_acked self.old }
         ensures evidence { IfSome result (λ pair.
             IsBacked self.old.setup.server (arc_value pair.0) pair.1) }
+        ensures first { IfSome result (λ pair. IsFirst self.old (arc_value pair.0) pair.1) }
         ensures next { self.new ≡ session_unloads self.old }
         ensures none { self.old.accepted ≡ [] → self.new ≡ self.old }
     {

@@ -18,6 +18,7 @@ ghost use Rattle.std.specs.Prelude.{
 };
 ghost use Rattle.fwd_session.specs.Live.{live_room, session_sends};
 ghost use Rattle.fwd_environment.specs.Links.{HasOffered, IsOffer, write_of};
+ghost use Rattle.fwd_workers.specs.Placed.{Moves};
 ghost use Rattle.fwd_workers.specs.Served.{
   HasRead,
   HasTurned,
@@ -31,6 +32,8 @@ ghost use Rattle.fwd_workers.specs.Served.{
 
 use crate::own_session::OwnSession;
 use fwd_environment::{Link, LinkFault, Read};
+use fwd_history::Run;
+use fwd_run::WorkerPage;
 use fwd_session::{Session, SessionFault, SessionHeard};
 use std::alloc::Global;
 use std::sync::Wait;
@@ -131,10 +134,11 @@ fn write<L: Link, R: Wait>(
 
 /// The link is offered the first of the bytes that wait, if any do, and the session is told how
 /// many it took.
-fn send<L: Link, R: Wait>(
+fn send<J: Run, L: Link, R: Wait>(
     rt: &R,
     link: &mut L,
     session: &mut Session,
+    page: &mut WorkerPage<J>,
     offer: Offer,
     room: &mut [u8],
 ) -> Result<(), LinkFault>
@@ -152,10 +156,12 @@ fn send<L: Link, R: Wait>(
     ensures room { live_room session.new ≡ live_room session.old }
     ensures up { session.new.down ≡ session.old.down }
     ensures more { takes_more session.new ≡ takes_more session.old }
+    ensures moves { Moves page.old page.new session.old session.new }
 {
     if session.waiting() > 0 {
         let count = write(rt, link, session, offer, room)?;
         session.wrote(count);
+        page.wrote(count as u64);
     }
     Ok(())
 }
@@ -169,31 +175,39 @@ fn takes_more(session: &Session) -> bool
 
 /// The session hears bytes.
 #[tactic(auto, unfolding(fwd_session::specs::Live::session_takes))]
-fn hear(alloc: Global, session: &mut Session, bytes: &[u8]) -> Served
+fn hear<J: Run>(
+    alloc: Global,
+    session: &mut Session,
+    page: &mut WorkerPage<J>,
+    bytes: &[u8],
+) -> Served
     requires { session.old.down ≡ false }
     ensures heard { IsHeard result session.old session.new bytes.now }
     ensures chunk { IsFree session.old → IsFree session.new }
     ensures setup { session.new.setup ≡ session.old.setup }
     ensures room { live_room session.new ≡ live_room session.old }
+    ensures moves { Moves page.old page.new session.old session.new }
 {
-    match session.heard(alloc, bytes) {
-        Err(_) => Served::Memory,
-        Ok(told) => match told.heard {
-            SessionHeard::Quiet => Served::Quiet,
-            SessionHeard::Ready => Served::Ready,
-            SessionHeard::Acked => Served::Acked,
-            SessionHeard::Fault(fault) => Served::Down(fault),
-            SessionHeard::NotUp => unreachable!(),
-        },
+    let Ok(told) = session.heard(alloc, bytes) else {
+        return Served::Memory;
+    };
+    page.heard(bytes);
+    match told.heard {
+        SessionHeard::Quiet => Served::Quiet,
+        SessionHeard::Ready => Served::Ready,
+        SessionHeard::Acked => Served::Acked,
+        SessionHeard::Fault(fault) => Served::Down(fault),
+        SessionHeard::NotUp => unreachable!(),
     }
 }
 
 /// The link is read once, into this room, and the session hears what it gave.
-fn read<L: Link, R: Wait>(
+fn read<J: Run, L: Link, R: Wait>(
     rt: &R,
     alloc: Global,
     link: &mut L,
     session: &mut Session,
+    page: &mut WorkerPage<J>,
     room: &mut [u8],
 ) -> Served
     requires up { session.old.down ≡ false }
@@ -203,9 +217,10 @@ fn read<L: Link, R: Wait>(
     ensures chunk { IsFree session.old → IsFree session.new }
     ensures setup { session.new.setup ≡ session.old.setup }
     ensures room { live_room session.new ≡ live_room session.old }
+    ensures moves { Moves page.old page.new session.old session.new }
 {
     match link.read(rt, room) {
-        Ok(Read::Bytes(count)) => hear(alloc, session, &room[..count]),
+        Ok(Read::Bytes(count)) => hear(alloc, session, page, &room[..count]),
         Ok(Read::Nothing) => Served::Quiet,
         Ok(Read::Closed) => Served::Closed,
         Err(fault) => Served::Failed(fault),
@@ -216,11 +231,12 @@ fn read<L: Link, R: Wait>(
 /// lie in one piece; and then, unless that failed, it is read once. What the link took the session
 /// is told, and what the link gave it hears. After `Memory` what was written is told and nothing
 /// that was read is heard, so the link must be ended.
-pub fn serve_turn<L: Link, R: Wait>(
+pub fn serve_turn<J: Run, L: Link, R: Wait>(
     rt: &R,
     alloc: Global,
     link: &mut L,
     session: &mut Session,
+    page: &mut WorkerPage<J>,
 ) -> Served
     requires { session.old.down ≡ false }
     ensures turn { IsTurn result session.old session.new (L.calls link.old) (L.calls link.new) }
@@ -229,23 +245,25 @@ pub fn serve_turn<L: Link, R: Wait>(
     ensures chunk { IsFree session.old → IsFree session.new }
     ensures setup { session.new.setup ≡ session.old.setup }
     ensures room { live_room session.new ≡ live_room session.old }
+    ensures moves { Moves page.old page.new session.old session.new }
 {
     let mut room = [0; TURN_ROOM];
-    if let Err(fault) = send(rt, link, session, Offer::Piece, &mut room) {
+    if let Err(fault) = send(rt, link, session, page, Offer::Piece, &mut room) {
         return Served::Failed(fault);
     }
-    read(rt, alloc, link, session, &mut room)
+    read(rt, alloc, link, session, page, &mut room)
 }
 
 /// The same, where several pieces are offered at once: as they stand where one of them is large, so
 /// that its bytes are not copied, and else gathered in this room, which is read into, too. Where
 /// the link took some, and more wait or a chunk more may be loaded, it is not read: a read may
 /// wait, and the next turn goes on sending, or loads.
-pub fn serve_gathered<L: Link, R: Wait>(
+pub fn serve_gathered<J: Run, L: Link, R: Wait>(
     rt: &R,
     alloc: Global,
     link: &mut L,
     session: &mut Session,
+    page: &mut WorkerPage<J>,
     room: &mut [u8],
 ) -> Served
     requires up { session.old.down ≡ false }
@@ -257,24 +275,26 @@ pub fn serve_gathered<L: Link, R: Wait>(
     ensures chunk { IsFree session.old → IsFree session.new }
     ensures setup { session.new.setup ≡ session.old.setup }
     ensures room { live_room session.new ≡ live_room session.old }
+    ensures moves { Moves page.old page.new session.old session.new }
 {
     let waiting = session.waiting();
-    if let Err(fault) = send(rt, link, session, Offer::Pieces, room) {
+    if let Err(fault) = send(rt, link, session, page, Offer::Pieces, room) {
         return Served::Failed(fault);
     }
     let left = session.waiting();
     if left < waiting && (0 < left || takes_more(session)) {
         return Served::Quiet;
     }
-    read(rt, alloc, link, session, room)
+    read(rt, alloc, link, session, page, room)
 }
 
 /// The same in a worker's room, or in a small one where that is empty.
-pub(crate) fn serve_in_room<L: Link, R: Wait>(
+pub(crate) fn serve_in_room<J: Run, L: Link, R: Wait>(
     rt: &R,
     alloc: Global,
     link: &mut L,
     session: &mut OwnSession,
+    page: &mut WorkerPage<J>,
     room: &mut Vec<u8>,
 ) -> Served
     requires { session.old.down ≡ false }
@@ -284,10 +304,25 @@ pub(crate) fn serve_in_room<L: Link, R: Wait>(
     ensures chunk { IsFree session.old → IsFree session.new }
     ensures setup { session.new.setup ≡ session.old.setup }
     ensures room { live_room session.new ≡ live_room session.old }
+    ensures moves { Moves page.old page.new session.old session.new }
 {
     if room.is_empty() {
-        return serve_gathered(rt, alloc, link, &mut session.session, &mut [0; SMALL_ROOM]);
+        return serve_gathered(
+            rt,
+            alloc,
+            link,
+            &mut session.session,
+            page,
+            &mut [0; SMALL_ROOM],
+        );
     }
     let most = room.len().min(ROOM);
-    serve_gathered(rt, alloc, link, &mut session.session, &mut room[..most])
+    serve_gathered(
+        rt,
+        alloc,
+        link,
+        &mut session.session,
+        page,
+        &mut room[..most],
+    )
 }

@@ -4,15 +4,18 @@ ghost use Rattle.std.specs.Prelude.{◌≡◌, ◌≤◌, ◌+◌, Some, None, [
 ghost use Rattle.fwd_session.specs.Live.{live_acked, live_chunks, session_unloads};
 ghost use Rattle.fwd_output.specs.Step.{lost_server};
 ghost use Rattle.fwd_output.specs.Live.{lives};
+ghost use Rattle.fwd_output.specs.Paged.{MayEnd};
 ghost use Rattle.fwd_workers.specs.Endings.{kind_in};
+ghost use Rattle.fwd_workers.specs.Placed.{Becomes, HasSession, Moves, held, with};
 ghost use Rattle.fwd_workers.specs.Working.{accepted_at, entries_in, next_entries};
 
 use crate::ending::kind_in;
 use crate::turn_context::TurnContext;
 use crate::upstream::{IdleUpstream, Upstream, UpstreamWithRoom, WorkerState};
 use fwd_chunks::Carried;
-use fwd_environment::{Clock, Link, WorkerEvent};
+use fwd_environment::{Link, WorkerEvent};
 use fwd_output::{Leaving, Tally, leave};
+use fwd_run::WorkerPage;
 use std::sync::Wait;
 
 /// The one place where entries are settled: where the upstream's session has an accepted
@@ -21,8 +24,10 @@ use std::sync::Wait;
 pub(crate) fn settle_upstream<A: Tally, S: Tally, L: Link, R: Wait>(
     context: &TurnContext<'_, A, S, R>,
     seat: &mut S::Seat,
+    page: &mut WorkerPage<A::Run>,
     upstream: &mut Upstream<L>,
 ) -> Option<WorkerEvent>
+    requires { HasSession page.old upstream.old.session }
     ensures none { upstream.old.session.accepted ≡ [] → (seat.new ≡ seat.old)
         × (upstream.new.session ≡ upstream.old.session) × (result ≡ None) }
     ensures settled { upstream.new.session ≡ session_unloads upstream.old.session }
@@ -33,13 +38,14 @@ pub(crate) fn settle_upstream<A: Tally, S: Tally, L: Link, R: Wait>(
     ensures most { S.count seat.new
         ≤ S.count seat.old + S.kept (next_entries (live_acked upstream.old.session)) }
     ensures parts { S.parts seat.new ≡ S.parts seat.old }
+    ensures moves { Moves page.old page.new upstream.old.session upstream.new.session }
 {
     let (acked, chunk) = upstream.session.acked()?;
     let event = WorkerEvent::Settled {
         number: chunk.number(),
         server: acked.server(),
     };
-    context.out.settle(context.rt, seat, acked, chunk);
+    context.out.settle(context.rt, seat, page, acked, chunk);
     Some(event)
 }
 
@@ -47,6 +53,7 @@ pub(crate) fn settle_upstream<A: Tally, S: Tally, L: Link, R: Wait>(
 /// session, each of which is a loss; and the server, if that is lost.
 fn leave_upstream<L: Link>(upstream: Upstream<L>, taken: Option<Carried>) -> Leaving
     requires settled { upstream.session.accepted ≡ [] }
+    ensures kind { result.kind ≡ kind_in upstream.ending }
     ensures taken { result.taken ≡ taken }
     ensures loaded { result.loaded.items ≡ live_chunks upstream.session.carried }
     ensures server { result.server
@@ -60,40 +67,20 @@ fn leave_upstream<L: Link>(upstream: Upstream<L>, taken: Option<Carried>) -> Lea
     leave(session.into_session(), taken, kind_in(ending))
 }
 
-/// What a worker leaves goes back to its output.
+/// What a worker leaves goes back to its output, at a moment (milliseconds).
 pub(crate) fn give_back<A: Tally, S: Tally, R: Wait>(
     context: &TurnContext<'_, A, S, R>,
     seat: &mut S::Seat,
+    page: &mut WorkerPage<A::Run>,
     leaving: Leaving,
+    now: u64,
 )
-    ensures { seat.new ≡ seat.old }
+    requires { MayEnd page.old page.old.output leaving.kind leaving.taken leaving.loaded.items
+        leaving.server }
+    ensures same { seat.new ≡ seat.old }
+    ensures ends { Becomes page.old page.new (with None None) }
 {
-    let Leaving {
-        taken,
-        loaded,
-        server,
-    } = leaving;
-    context
-        .out
-        .end(context.rt, seat, taken, loaded, server, context.now);
-}
-
-/// No session began with a server: what the worker leaves goes back, at the moment that it is now.
-pub(crate) fn give_back_now<A: Tally, S: Tally, C: Clock, R: Wait>(
-    context: &TurnContext<'_, A, S, R>,
-    seat: &mut S::Seat,
-    clock: &mut C,
-    leaving: Leaving,
-)
-    ensures { seat.new ≡ seat.old }
-{
-    let context = TurnContext {
-        rt: context.rt,
-        out: context.out,
-        now: clock.now(),
-        leaves_open: context.leaves_open,
-    };
-    give_back(&context, seat, leaving);
+    context.out.end(context.rt, seat, page, leaving, now);
 }
 
 /// A session ends of whose chunks none is accepted: they go back, and the one that its worker may
@@ -101,16 +88,19 @@ pub(crate) fn give_back_now<A: Tally, S: Tally, C: Clock, R: Wait>(
 pub(crate) fn lose_upstream<A: Tally, S: Tally, L: Link, R: Wait>(
     context: &TurnContext<'_, A, S, R>,
     seat: &mut S::Seat,
+    page: &mut WorkerPage<A::Run>,
     upstream: Upstream<L>,
     taken: Option<Carried>,
 ) -> u64
     requires settled { upstream.session.accepted ≡ [] }
+    requires has { page.old.has ≡ Some (with taken (Some upstream.session)) }
     ensures same { seat.new ≡ seat.old }
+    ensures ends { Becomes page.old page.new (with None None) }
     ensures count { result ≡ length upstream.session.carried }
 {
     let leaving = leave_upstream(upstream, taken);
     let chunks = leaving.loaded.len() as u64;
-    give_back(context, seat, leaving);
+    give_back(context, seat, page, leaving, context.now);
     chunks
 }
 
@@ -119,10 +109,13 @@ pub(crate) fn lose_upstream<A: Tally, S: Tally, L: Link, R: Wait>(
 pub(crate) fn end_upstream<A: Tally, S: Tally, L: Link, R: Wait>(
     context: &TurnContext<'_, A, S, R>,
     seat: &mut S::Seat,
+    page: &mut WorkerPage<A::Run>,
     upstream: Upstream<L>,
     taken: Option<Carried>,
 )
+    requires { page.old.has ≡ Some (with taken (Some upstream.session)) }
     ensures same { upstream.session.accepted ≡ [] → seat.new ≡ seat.old }
+    ensures ends { Becomes page.old page.new (with None None) }
     ensures count { S.count seat.old ≤ S.count seat.new }
     ensures most { S.count seat.new
         ≤ S.count seat.old + S.kept (entries_in upstream.session.accepted) }
@@ -130,31 +123,39 @@ pub(crate) fn end_upstream<A: Tally, S: Tally, L: Link, R: Wait>(
 {
     let mut upstream = upstream;
     while upstream.session.is_acked() {
-        let _event = settle_upstream(context, seat, &mut upstream);
+        let _event = settle_upstream(context, seat, page, &mut upstream);
     }
-    give_back(context, seat, leave_upstream(upstream, taken));
+    let leaving = leave_upstream(upstream, taken);
+    give_back(context, seat, page, leaving, context.now);
 }
 
 /// The same of a session without a chunk, whose worker may have taken one, which goes back.
 pub(crate) fn end_free<A: Tally, S: Tally, L: Link, R: Wait>(
     context: &TurnContext<'_, A, S, R>,
     seat: &mut S::Seat,
+    page: &mut WorkerPage<A::Run>,
     free: IdleUpstream<L>,
     taken: Option<Carried>,
 )
-    ensures { seat.new ≡ seat.old }
+    requires { page.old.has ≡ Some (with taken (Some free.upstream.session)) }
+    ensures same { seat.new ≡ seat.old }
+    ensures ends { Becomes page.old page.new (with None None) }
 {
     let IdleUpstream { upstream } = free;
-    give_back(context, seat, leave_upstream(upstream, taken));
+    let leaving = leave_upstream(upstream, taken);
+    give_back(context, seat, page, leaving, context.now);
 }
 
 /// A worker ends: each accepted chunk is settled, and the others go back.
 pub(crate) fn finish<A: Tally, S: Tally, L: Link, R: Wait>(
     context: &TurnContext<'_, A, S, R>,
     seat: &mut S::Seat,
+    page: &mut WorkerPage<A::Run>,
     state: WorkerState<L>,
 )
+    requires { page.old.has ≡ Some (held state) }
     ensures same { accepted_at state ≡ [] → seat.new ≡ seat.old }
+    ensures ends { Becomes page.old page.new (with None None) }
     ensures count { S.count seat.old ≤ S.count seat.new }
     ensures most { S.count seat.new
         ≤ S.count seat.old + S.kept (entries_in (accepted_at state)) }
@@ -163,15 +164,15 @@ pub(crate) fn finish<A: Tally, S: Tally, L: Link, R: Wait>(
     match state {
         WorkerState::Idle | WorkerState::Seeking => {}
         WorkerState::Sought(free) | WorkerState::Standing(free) => end_free(
-            context, seat, free, None,
+            context, seat, page, free, None,
         ),
-        WorkerState::Took(free, chunk) => end_free(context, seat, free, Some(chunk)),
+        WorkerState::Took(free, chunk) => end_free(context, seat, page, free, Some(chunk)),
         WorkerState::Added(roomy, chunk) => {
             let UpstreamWithRoom { upstream } = roomy;
-            end_upstream(context, seat, upstream, Some(chunk));
+            end_upstream(context, seat, page, upstream, Some(chunk));
         }
         WorkerState::Loaded(upstream) | WorkerState::Settled(upstream) => end_upstream(
-            context, seat, upstream, None,
+            context, seat, page, upstream, None,
         ),
     }
 }

@@ -4,6 +4,7 @@ ghost use Rattle.std.specs.Prelude.{◌≡◌, ◌<◌, [], Some, None, true, is
 ghost use Rattle.fwd_session.specs.History.{Setup, is_done};
 ghost use Rattle.fwd_session.specs.Live.{live_room, session_begins};
 ghost use Rattle.fwd_workers.specs.Endings.{idle_ending};
+ghost use Rattle.fwd_workers.specs.Placed.{Moves};
 ghost use Rattle.fwd_workers.specs.Served.{IsFree};
 ghost use Rattle.fwd_workers.specs.Working.{IsTended};
 
@@ -12,6 +13,8 @@ use crate::own_session::OwnSession;
 use crate::serve::serve_in_room;
 use crate::upstream::{IdleUpstream, Upstream};
 use fwd_environment::{Link, LossReason};
+use fwd_history::Run;
+use fwd_run::WorkerPage;
 use std::alloc::Global;
 use std::sync::Wait;
 
@@ -28,10 +31,11 @@ fn lost(why: Option<LossReason>) -> Option<EndReason>
 /// A turn of an upstream at a moment (milliseconds): it may be late, and else its session is
 /// served, in this room of its worker. An upstream that is to end stays as it is.
 #[tactic(auto, unfolding(fwd_session::specs::Live::session_looks))]
-pub(crate) fn serve<L: Link, R: Wait>(
+pub(crate) fn serve<J: Run, L: Link, R: Wait>(
     rt: &R,
     alloc: Global,
     room: &mut Vec<u8>,
+    page: &mut WorkerPage<J>,
     upstream: Upstream<L>,
     now: u64,
 ) -> Upstream<L>
@@ -41,6 +45,7 @@ pub(crate) fn serve<L: Link, R: Wait>(
     ensures turn { upstream.ending ≡ None → IsTended upstream.session result.session now
         (L.calls upstream.link) (L.calls result.link) result.ending }
     ensures over { is_some upstream.ending ≡ true → result.ending ≡ upstream.ending }
+    ensures moves { Moves page.old page.new upstream.session result.session }
 {
     let Upstream {
         mut link,
@@ -54,6 +59,7 @@ pub(crate) fn serve<L: Link, R: Wait>(
             ending,
         };
     }
+    page.late(now);
     let Ok(false) = session.late(now) else {
         return Upstream {
             link,
@@ -61,7 +67,7 @@ pub(crate) fn serve<L: Link, R: Wait>(
             ending: Some(EndReason::Lost(LossReason::Late)),
         };
     };
-    let served = serve_in_room(rt, alloc, &mut link, &mut session, room);
+    let served = serve_in_room(rt, alloc, &mut link, &mut session, page, room);
     Upstream {
         link,
         session,
@@ -70,10 +76,11 @@ pub(crate) fn serve<L: Link, R: Wait>(
 }
 
 /// The same of an upstream whose session has no chunk.
-pub(crate) fn serve_free<L: Link, R: Wait>(
+pub(crate) fn serve_free<J: Run, L: Link, R: Wait>(
     rt: &R,
     alloc: Global,
     room: &mut Vec<u8>,
+    page: &mut WorkerPage<J>,
     free: IdleUpstream<L>,
     now: u64,
 ) -> IdleUpstream<L>
@@ -82,9 +89,10 @@ pub(crate) fn serve_free<L: Link, R: Wait>(
         (L.calls free.upstream.link) (L.calls result.upstream.link) result.upstream.ending }
     ensures over { is_some free.upstream.ending ≡ true
         → result.upstream.ending ≡ free.upstream.ending }
+    ensures moves { Moves page.old page.new free.upstream.session result.upstream.session }
 {
     let IdleUpstream { upstream } = free;
-    let upstream = serve(rt, alloc, room, upstream, now);
+    let upstream = serve(rt, alloc, room, page, upstream, now);
     IdleUpstream { upstream }
 }
 

@@ -1,7 +1,8 @@
 //! A worker: it takes chunks from its output, sends them to a server, and settles what the server
 //! acknowledged.
 
-ghost use Rattle.std.specs.Prelude.{◌≡◌, ◌≤◌, ◌+◌, []};
+ghost use Rattle.std.specs.Prelude.{◌≡◌, ◌≤◌, ◌+◌, [], None};
+ghost use Rattle.fwd_workers.specs.Placed.{Becomes, Stands, held, with};
 ghost use Rattle.fwd_workers.specs.Working.{IsEarned, accepted_at, entries_in};
 
 mod connecting;
@@ -16,7 +17,9 @@ use crate::upstream::WorkerState;
 use crate::upstream_end::finish;
 use fwd_environment::{Clock, Gate, Hub, Pass, WorkerEvent};
 use fwd_handshake::Login;
+use fwd_history::Run;
 use fwd_output::{SharedOutput, Tally};
+use fwd_run::WorkerPage;
 use fwd_session::AckTerms;
 use rand_chacha::ChaCha20Rng;
 use std::alloc::Global;
@@ -35,13 +38,23 @@ impl WorkerEnd {
     }
 }
 
+/// What a worker begins sessions by: what it proves to servers, and how it waits for
+/// acknowledgements.
+#[derive(Drop)]
+pub struct SessionTerms {
+    pub login: Arc<Login>,
+    pub acks: AckTerms,
+    /// How many servers its output has.
+    pub servers: u16,
+}
+
 /// A worker of an output.
 #[derive(Drop)]
-pub struct Worker {
+pub(crate) struct Worker<J: Run> {
+    /// Its page in the history of the run: between its runs the worker has nothing by it.
+    pub(crate) page: WorkerPage<J>,
     alloc: Global,
-    number: u16,
-    login: Arc<Login>,
-    acks: AckTerms,
+    terms: SessionTerms,
     rng: ChaCha20Rng,
     /// Where it gathers what it writes, and reads: it is made at the first run, and stays empty
     /// where memory is refused.
@@ -53,21 +66,16 @@ pub struct Worker {
     doubts: Doubts,
 }
 
-impl Worker {
-    /// The worker of this number. It logs in by `login`, waits by `acks` for what a server owes
-    /// it, and draws the salts of its logins from the generator.
-    pub fn new(
-        alloc: Global,
-        number: u16,
-        login: Arc<Login>,
-        acks: AckTerms,
-        rng: ChaCha20Rng,
-    ) -> Self {
+impl<J: Run> Worker<J> {
+    /// The worker whose page this is. It draws the salts of its logins from the generator.
+    pub fn new(alloc: Global, page: WorkerPage<J>, terms: SessionTerms, rng: ChaCha20Rng) -> Self
+        ensures page { result.page ≡ page }
+        ensures terms { result.terms ≡ terms }
+    {
         Worker {
+            page,
             alloc,
-            number,
-            login,
-            acks,
+            terms,
             rng,
             room: Vec::new(alloc),
             last: None,
@@ -95,7 +103,7 @@ impl Worker {
     /// it is free; with none loaded it goes to the server that it is to try. At the end each
     /// accepted chunk is settled, and those that are taken or loaded go back. No more entries count
     /// than those chunks have that were acknowledged over links of the hub.
-    pub fn run<A: Tally, S: Tally, H: Hub, G: Gate, C: Clock, R: Wait>(
+    pub fn run<A: Tally<Run = J>, S: Tally, H: Hub, G: Gate, C: Clock, R: Wait>(
         &mut self,
         rt: &R,
         out: &SharedOutput<A, S>,
@@ -105,6 +113,9 @@ impl Worker {
         clock: &mut C,
         turns: u64,
     ) -> (S::Seat, WorkerEnd)
+        requires { Stands self.old.page (with None None) self.old.terms }
+        ensures page { self.new.page ≡ self.old.page }
+        ensures terms { self.new.terms ≡ self.old.terms }
         ensures count { S.count seat ≤ S.count result.0 }
         ensures most { ∥ IsEarned (λ link. H.Line.calls link) (λ n. S.kept n) (S.count seat)
             (S.count result.0) ∥₁ }
@@ -116,10 +127,10 @@ impl Worker {
         for turn in 0..turns {
             let pass = match place(&state) {
                 None => Pass::Go,
-                Some(place) => gate.pass(rt, self.number, place, turn),
+                Some(place) => gate.pass(rt, self.page.worker(), place, turn),
             };
             let now = clock.now();
-            let leaves_open = gate.leaves_open(self.number);
+            let leaves_open = gate.leaves_open(self.page.worker());
             let context = TurnContext {
                 rt,
                 out,
@@ -137,7 +148,7 @@ impl Worker {
                 }
                 Pass::Hold => {}
                 Pass::Stop => {
-                    finish(&context, &mut seat, state);
+                    finish(&context, &mut seat, &mut self.page, state);
                     return (seat, WorkerEnd { is_stopped: true });
                 }
             }
@@ -149,31 +160,37 @@ impl Worker {
             now,
             leaves_open: 0,
         };
-        finish(&context, &mut seat, state);
+        finish(&context, &mut seat, &mut self.page, state);
         (seat, WorkerEnd { is_stopped: false })
     }
 
     /// The gate is told what the turn came to.
-    fn tell<G: Gate, R: Wait>(&mut self, rt: &R, gate: &mut G) {
+    fn tell<G: Gate, R: Wait>(&mut self, rt: &R, gate: &mut G)
+        ensures { self.new
+            ≡ record self.old { event = self.new.event; doubts = self.new.doubts } }
+    {
         if let Some(denial) = self.doubts.denial.take() {
-            gate.hear_denial(rt, self.number, denial);
+            gate.hear_denial(rt, self.page.worker(), denial);
         }
         if let Some(event) = self.event.take() {
-            gate.hear(rt, self.number, event);
+            gate.hear(rt, self.page.worker(), event);
         }
         if let Some(refused) = self.doubts.refused.take() {
-            gate.hear_refused(rt, self.number, refused);
+            gate.hear_refused(rt, self.page.worker(), refused);
         }
     }
 
     /// One turn from where the worker stands. Only what was acknowledged before is settled.
-    fn step<A: Tally, S: Tally, H: Hub, C: Clock, R: Wait>(
+    fn step<A: Tally<Run = J>, S: Tally, H: Hub, C: Clock, R: Wait>(
         &mut self,
         context: &TurnContext<'_, A, S, R>,
         seat: &mut S::Seat,
         outside: &mut Outside<'_, H, C>,
         state: WorkerState<H::Line>,
     ) -> WorkerState<H::Line>
+        requires { Stands self.old.page (held state) self.old.terms }
+        ensures has { Becomes self.old.page self.new.page (held result) }
+        ensures terms { self.new.terms ≡ self.old.terms }
         ensures same { accepted_at state ≡ [] → seat.new ≡ seat.old }
         ensures count { S.count seat.old ≤ S.count seat.new }
         ensures most { S.count seat.new

@@ -1,6 +1,7 @@
 //! Turns of a relay that are made by hand: first without its workers, and then beside them.
 
-ghost use Rattle.std.specs.Prelude.{◌≡◌, ◌<◌, true};
+ghost use Rattle.std.specs.Prelude.{◌≡◌, true};
+ghost use Rattle.fwd_run.specs.Pages.{page_count};
 ghost use Rattle.fwd_settings.specs.Ranges.{in_range};
 
 use crate::frame::MESSAGE;
@@ -10,9 +11,9 @@ use crate::step::Step;
 use crate::test_relay::{PLAIN, SEED, started};
 use anyhow::{Result, anyhow};
 use fwd_history::Run;
-use fwd_loop::{Platform, Turns};
+use fwd_loop::{FrontTurns, Platform};
 use fwd_monitor::page;
-use fwd_output::OpenedOutputs;
+use fwd_run::OpenedRun;
 use fwd_settings::Settings;
 use std::marker::Brand;
 use std::net::{Net, TcpListener, TcpStream};
@@ -73,7 +74,11 @@ const CLOSED: &[Step] = &[Step::Told("told_at_the_close", 0), Step::Rest("rest",
 const SOON: u64 = 20_000;
 
 /// Makes so many turns.
-fn turn<J: Run, R: Wait + Clock>(rt: &R, turns: &mut Turns<'_, J, R>, count: u32) -> Result<()> {
+fn turn<J: Run, R: Wait + Clock>(
+    rt: &R,
+    turns: &mut FrontTurns<'_, J, R>,
+    count: u32,
+) -> Result<()> {
     for _ in 0..count {
         if let Err(fault) = turns.turn(rt) {
             return Err(anyhow!("{fault}"));
@@ -85,7 +90,7 @@ fn turn<J: Run, R: Wait + Clock>(rt: &R, turns: &mut Turns<'_, J, R>, count: u32
 /// Appends the monitor's page of what the outputs have to do with.
 fn put_page<J: Run, R: Wait + Clock>(
     rt: &R,
-    turns: &Turns<'_, J, R>,
+    turns: &FrontTurns<'_, J, R>,
     field: &str,
     stage: &mut SceneRun,
 ) -> Result<()> {
@@ -98,7 +103,7 @@ fn put_page<J: Run, R: Wait + Clock>(
 /// Plays these steps.
 fn play<J: Run, R: Net<Listener = TcpListener, Stream = TcpStream> + Wait + Clock>(
     rt: &R,
-    turns: &mut Turns<'_, J, R>,
+    turns: &mut FrontTurns<'_, J, R>,
     steps: &[ManualClock],
     stage: &mut SceneRun,
 ) -> Result<()> {
@@ -116,7 +121,7 @@ impl Turner for SceneRun {
     fn turn_alone<J: Run, R: Net<Listener = TcpListener, Stream = TcpStream> + Wait + Clock>(
         &mut self,
         rt: &R,
-        turns: &mut Turns<'_, J, R>,
+        turns: &mut FrontTurns<'_, J, R>,
     ) {
         let played = play(rt, turns, ALONE, self);
         self.told.note(played);
@@ -125,7 +130,7 @@ impl Turner for SceneRun {
     fn turn_beside<J: Run, R: Net<Listener = TcpListener, Stream = TcpStream> + Wait + Clock>(
         &mut self,
         rt: &R,
-        turns: &mut Turns<'_, J, R>,
+        turns: &mut FrontTurns<'_, J, R>,
     ) {
         let played = play(rt, turns, BESIDE, self);
         self.told.note(played);
@@ -135,13 +140,13 @@ impl Turner for SceneRun {
 /// Makes the turns of a relay of these settings, whose outputs' history it is given.
 fn make_turns<J: Run + Send + Sync, R: Platform>(
     rt: &R,
-    opened: OpenedOutputs,
+    opened: OpenedRun,
     settings: Settings,
     stage: &mut SceneRun,
 ) -> Result<()>
     requires range { in_range settings ≡ true }
     requires book { opened.book ≡ J.book }
-    requires pages { 64 < opened.pages }
+    requires pages { opened.pages ≡ page_count }
 {
     let relay = started::<J, R>(rt, opened, settings)?;
     let ended = run(rt, relay, stage);
@@ -158,7 +163,7 @@ fn make_turns<J: Run + Send + Sync, R: Platform>(
 /// Makes the turns of such a relay.
 fn make_such_turns<R: Platform>(rt: &R, stage: &mut SceneRun) -> Result<()> {
     let settings = stage.site.settings(rt.alloc(), 8, SEED, &[PLAIN])?;
-    make_turns::<Brand, R>(rt, OpenedOutputs::new(usize::MAX), settings, stage)
+    make_turns::<Brand, R>(rt, OpenedRun::new(usize::MAX), settings, stage)
 }
 
 /// What is printed of turns by hand.

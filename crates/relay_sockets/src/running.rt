@@ -3,7 +3,7 @@
 use crate::run_events::RunEvents;
 use fwd_chunks::Report;
 use fwd_history::Run;
-use fwd_loop::{Beside, Loop, Opened, Platform, StartFault, Started, Turns, close_all};
+use fwd_loop::{Beside, FrontTurns, Loop, Opened, Platform, StartFault, Started, close_all};
 use std::net::{Net, TcpListener, TcpStream};
 use std::rt::Clock;
 use std::sync::Wait;
@@ -16,14 +16,14 @@ pub trait Turner {
     fn turn_alone<J: Run, R: Net<Listener = TcpListener, Stream = TcpStream> + Wait + Clock>(
         &mut self,
         rt: &R,
-        turns: &mut Turns<'_, J, R>,
+        turns: &mut FrontTurns<'_, J, R>,
     );
 
     /// Makes turns while they work.
     fn turn_beside<J: Run, R: Net<Listener = TcpListener, Stream = TcpStream> + Wait + Clock>(
         &mut self,
         rt: &R,
-        turns: &mut Turns<'_, J, R>,
+        turns: &mut FrontTurns<'_, J, R>,
     );
 }
 
@@ -40,13 +40,13 @@ impl Turner for Until<'_> {
     fn turn_alone<J: Run, R: Net<Listener = TcpListener, Stream = TcpStream> + Wait + Clock>(
         &mut self,
         _rt: &R,
-        _turns: &mut Turns<'_, J, R>,
+        _turns: &mut FrontTurns<'_, J, R>,
     ) {}
 
     fn turn_beside<J: Run, R: Net<Listener = TcpListener, Stream = TcpStream> + Wait + Clock>(
         &mut self,
         rt: &R,
-        turns: &mut Turns<'_, J, R>,
+        turns: &mut FrontTurns<'_, J, R>,
     ) {
         for _ in 0..u64::MAX {
             if self.over.load(Ordering::SeqCst) || self.fault.is_some() {
@@ -60,7 +60,7 @@ impl Turner for Until<'_> {
 /// Makes turns with the other readers and the workers at work meanwhile, which end then, too.
 fn serve<J: Run + Send + Sync, R: Platform, T: Turner>(
     rt: &R,
-    turns: &mut Turns<'_, J, R>,
+    turns: &mut FrontTurns<'_, J, R>,
     beside: Beside<'_, '_, J, R>,
     turner: &mut T,
 ) -> Result<(), StartFault> {

@@ -1,6 +1,7 @@
 //! A scene: a relay, and what happens around it.
 
-ghost use Rattle.std.specs.Prelude.{◌≡◌, ◌<◌};
+ghost use Rattle.std.specs.Prelude.{◌≡◌};
+ghost use Rattle.fwd_run.specs.Pages.{page_count};
 
 use crate::polled_server::Mood;
 use crate::run_events::{RunEvents, Said};
@@ -13,7 +14,7 @@ use anyhow::{Result, anyhow, bail};
 use fwd_chunks::Report;
 use fwd_history::Run;
 use fwd_loop::{Loop, Platform, StartFault};
-use fwd_output::OpenedOutputs;
+use fwd_run::OpenedRun;
 use std::marker::Brand;
 use std::net::{Net, TcpListener, TcpStream};
 use std::rt::Clock;
@@ -113,7 +114,10 @@ impl Scene {
         until: &mut Until<'_>,
     ) -> Result<Vec<Report>, StartFault> {
         match self.turns {
-            Some(turns) => relay.run_watched(rt, &mut until.heard, turns),
+            Some(turns) => {
+                let outcome = relay.run_watched(rt, &mut until.heard, turns)?;
+                Ok(outcome.reports)
+            }
             None => run(rt, relay, until),
         }
     }
@@ -135,26 +139,27 @@ impl Scene {
     fn run<J: Run + Send + Sync, R: Platform>(
         self,
         rt: &R,
-        opened: OpenedOutputs,
+        opened: OpenedRun,
         stage: &mut SceneRun,
         until: &mut Until<'_>,
     ) -> Result<Vec<Report>>
         requires book { opened.book ≡ J.book }
-        requires pages { 64 < opened.pages }
+        requires pages { opened.pages ≡ page_count }
     {
         let settings = stage
             .site
             .settings(rt.alloc(), self.sources, self.keys, self.outputs)?;
         let relay = started::<J, R>(rt, opened, settings)?;
         let over = until.over;
-        let (ended, played) = thread::join(
+        // The ids of sources stay in this thread, and the relay with them.
+        let (played, ended) = thread::join(
             rt,
-            move || self.turn(rt, relay, until),
             move || {
                 let played = self.play_out(rt, stage);
                 over.store(true, Ordering::SeqCst);
                 played
             },
+            move || self.turn(rt, relay, until),
         );
         played?;
         match ended {
@@ -171,7 +176,7 @@ impl Scene {
             over: &is_over,
             fault: None,
         };
-        let opened = OpenedOutputs::new(usize::MAX);
+        let opened = OpenedRun::new(usize::MAX);
         let reports = self.run::<Brand, R>(rt, opened, stage, &mut until)?;
         let Until {
             heard,

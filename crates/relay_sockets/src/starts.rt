@@ -1,6 +1,7 @@
 //! Why a relay does not start, and what is said of it.
 
-ghost use Rattle.std.specs.Prelude.{◌≡◌, ◌<◌, true};
+ghost use Rattle.std.specs.Prelude.{◌≡◌, true};
+ghost use Rattle.fwd_run.specs.Pages.{page_count};
 ghost use Rattle.fwd_settings.specs.Ranges.{in_range};
 
 use crate::scene_run::SceneRun;
@@ -9,7 +10,7 @@ use crate::transcript::Transcript;
 use anyhow::{Result, anyhow};
 use fwd_history::Run;
 use fwd_loop::StartFault;
-use fwd_output::OpenedOutputs;
+use fwd_run::OpenedRun;
 use fwd_settings::Settings;
 use std::marker::Brand;
 use std::net::{Net, SocketAddr, TcpListener, TcpStream};
@@ -22,18 +23,18 @@ fn start<R: Net<Listener = TcpListener, Stream = TcpStream> + AllocGlobal>(
     keys: &str,
 ) -> Result<String> {
     let settings = site.settings(rt.alloc(), 8, keys, &[PLAIN])?;
-    refusal::<Brand, R>(rt, OpenedOutputs::new(usize::MAX), settings)
+    refusal::<Brand, R>(rt, OpenedRun::new(usize::MAX), settings)
 }
 
 /// What a relay of these settings says that does not start.
 fn refusal<J: Run + Send + Sync, R: Net<Listener = TcpListener, Stream = TcpStream> + AllocGlobal>(
     rt: &R,
-    opened: OpenedOutputs,
+    opened: OpenedRun,
     settings: Settings,
 ) -> Result<String>
     requires range { in_range settings ≡ true }
     requires book { opened.book ≡ J.book }
-    requires pages { 64 < opened.pages }
+    requires pages { opened.pages ≡ page_count }
 {
     match started::<J, R>(rt, opened, settings) {
         Ok(_) => Err(anyhow!("it starts")),

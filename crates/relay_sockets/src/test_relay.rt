@@ -1,6 +1,7 @@
 //! A relay on this machine: its ports and its settings.
 
-ghost use Rattle.std.specs.Prelude.{◌≡◌, ◌<◌, true, IfOk};
+ghost use Rattle.std.specs.Prelude.{◌≡◌, true, IfOk};
+ghost use Rattle.fwd_run.specs.Pages.{page_count};
 ghost use Rattle.fwd_settings.specs.Ranges.{in_range};
 
 use crate::sealed::Sealed;
@@ -8,7 +9,7 @@ use crate::server::Server;
 use anyhow::{Result, anyhow};
 use fwd_history::Run;
 use fwd_loop::Loop;
-use fwd_output::OpenedOutputs;
+use fwd_run::OpenedRun;
 use fwd_settings::{Settings, accepted_is_in_range, read_settings};
 use std::alloc::{AllocError, Global};
 use std::net::{Net, SocketAddr, TcpListener, TcpStream};
@@ -163,10 +164,10 @@ impl TestRelay {
 pub fn started<
     J: Run + Send + Sync,
     R: Net<Listener = TcpListener, Stream = TcpStream> + AllocGlobal,
->(rt: &R, opened: OpenedOutputs, settings: Settings) -> Result<Loop<J>>
+>(rt: &R, opened: OpenedRun, settings: Settings) -> Result<Loop<J>>
     requires range { in_range settings ≡ true }
     requires book { opened.book ≡ J.book }
-    requires pages { 64 < opened.pages }
+    requires pages { opened.pages ≡ page_count }
 {
     match Loop::new(&Sealed::new(rt), opened, settings) {
         Ok(relay) => Ok(relay),

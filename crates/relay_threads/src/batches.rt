@@ -1,6 +1,7 @@
-//! The requests that are admitted, and the outputs that they are admitted to.
+//! The requests that are admitted, and what their chunks and sessions are.
 
-ghost use Rattle.std.specs.Prelude.{◌≡◌, ◌≤◌, false, length, Contains, IfOk};
+ghost use Rattle.std.specs.Prelude.{◌≡◌, IfOk};
+ghost use Rattle.std.specs.Arc.{arc_value};
 
 use anyhow::{Result, bail};
 use fwd_base::Bytes;
@@ -9,7 +10,6 @@ use fwd_handshake::Login;
 use fwd_model::BufferLimits;
 use fwd_modes::{Batch, Reading, read_request};
 use fwd_msgpack::{Cut, Limits, cut};
-use fwd_output::OutputSetup;
 use fwd_session::{AckTerms, Session};
 use std::alloc::Global;
 use std::sync::Arc;
@@ -71,49 +71,12 @@ pub fn batch(alloc: Global, bytes: &[u8]) -> Result<Batch> {
     }
 }
 
-/// What an output of these servers begins with: for each it says whether it is a standby.
-fn setup(number: u16, chunk: u32, total: u64, standby: &'static [bool]) -> OutputSetup<'static>
-    ensures number { result.output ≡ number }
-    ensures servers { result.standby.now ≡ standby.now }
-{
-    OutputSetup {
-        limits: limits(chunk, total),
-        run: [0; 6],
-        output: number,
-        standby,
-    }
-}
-
-/// The first output, with two servers, the second of them a standby.
-pub fn output(chunk: u32, total: u64) -> OutputSetup<'static>
-    ensures number { result.output ≡ 0 }
-    ensures servers { (length result.standby.now ≤ 16) × Contains result.standby.now false }
-{
-    output_at(0, chunk, total)
-}
-
-/// The same output at the place of this number.
-pub fn output_at(number: u16, chunk: u32, total: u64) -> OutputSetup<'static>
-    ensures number { result.output ≡ number }
-    ensures servers { (length result.standby.now ≤ 16) × Contains result.standby.now false }
-{
-    setup(number, chunk, total, &[false, true])
-}
-
-/// The first output, with one server.
-pub fn output_of_one(chunk: u32, total: u64) -> OutputSetup<'static>
-    ensures number { result.output ≡ 0 }
-    ensures servers { (length result.standby.now ≤ 16) × Contains result.standby.now false }
-{
-    setup(0, chunk, total, &[false])
-}
-
-/// An output with three servers, the last of them a standby.
-pub fn output_of_three(chunk: u32, total: u64) -> OutputSetup<'static>
-    ensures number { result.output ≡ 0 }
-    ensures servers { (length result.standby.now ≤ 16) × Contains result.standby.now false }
-{
-    setup(0, chunk, total, &[false, false, true])
+/// The acknowledgement of a chunk.
+pub fn ack_of(chunk: &Carried) -> [u8; 30] {
+    let mut reply = [0; 30];
+    reply[..6].copy_from_slice(b"\x81\xa3ack\xb8");
+    reply[6..].copy_from_slice(chunk.name());
+    reply
 }
 
 /// The chunk is no more: a buffer that did not give it only spends it.
@@ -141,15 +104,8 @@ pub fn drop_session(alloc: Global, session: Session) {
 }
 
 /// A chunk as its worker leaves it: taken, or loaded where it is said to be lost.
-pub fn left_as(
-    alloc: Global,
-    chunk: Option<Carried>,
-    lost: bool,
-) -> (Option<Carried>, Vec<Carried>) {
-    let Some(chunk) = chunk else {
-        return (None, Vec::new(alloc));
-    };
-    if !lost {
+pub fn left_as(alloc: Global, chunk: Carried, is_lost: bool) -> (Option<Carried>, Vec<Carried>) {
+    if !is_lost {
         return (Some(chunk), Vec::new(alloc));
     }
     match Vec::with_capacity(alloc, 1) {
@@ -176,23 +132,29 @@ pub fn terms_of(window: u8, ack_wait: u64) -> AckTerms {
 
 /// The login of a worker without a shared key.
 pub fn login(alloc: Global) -> Result<Arc<Login>> {
-    login_with(alloc, None)
+    shared(alloc, login_with(alloc, None)?)
 }
 
-/// The login of a worker whose servers have to know a key, if there is one.
-pub fn login_with(alloc: Global, key: Option<&[u8]>) -> Result<Arc<Login>> {
+/// What a worker proves to servers, which have to know a key, if there is one.
+pub fn login_with(alloc: Global, key: Option<&[u8]>) -> Result<Login> {
     let shared_key = match key {
         Some(key) => Some(Bytes::from_slice(alloc, key)?),
         None => None,
     };
-    let login = Login {
+    Ok(Login {
         hostname: Bytes::from_slice(alloc, b"relay")?,
         shared_key,
         username: Bytes::new(alloc),
         password: Bytes::new(alloc),
-    };
-    match Arc::new(alloc, login) {
-        Ok(login) => Ok(login),
+    })
+}
+
+/// A value that many may share.
+pub fn shared<T: Drop>(alloc: Global, value: T) -> Result<Arc<T>>
+    ensures { IfOk result (λ shared. arc_value shared ≡ value) }
+{
+    match Arc::new(alloc, value) {
+        Ok(shared) => Ok(shared),
         Err(_) => bail!("no memory"),
     }
 }

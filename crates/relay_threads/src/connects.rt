@@ -1,19 +1,19 @@
 //! When a worker connects to a server, and when it does not.
 
-ghost use Rattle.std.specs.Prelude.{◌≡◌, ◌<◌};
+ghost use Rattle.std.specs.Prelude.{◌≡◌};
+ghost use Rattle.fwd_run.specs.Pages.{page_count};
 
-use crate::batches::{login, output, terms};
 use crate::faulty::{Faulty, FaultyHub, Got, Wrong};
 use crate::memory::Open;
-use crate::paging::paged;
-use crate::turns::{Load, abandon_all, admits};
+use crate::output_plan::output;
+use crate::paging::begin;
+use crate::turns::{abandon_all, admits};
 use anyhow::Result;
 use fwd_history::Run;
 use fwd_model::FlushKind;
-use fwd_output::{Locked, OpenedOutputs, Plain, SharedOutput};
-use fwd_workers::{Clock, Gate, Hub, LinkFault, Pass, Place, Worker, WorkerEvent};
-use rand_chacha::ChaCha20Rng;
-use rand_core::SeedableRng;
+use fwd_output::{Plain, SharedOutput};
+use fwd_run::OpenedRun;
+use fwd_workers::{Clock, Gate, Hub, LinkFault, Pass, Place, PlacedWorker, WorkerEvent};
 use std::alloc::Global;
 use std::marker::Brand;
 use std::sync::Wait;
@@ -81,6 +81,7 @@ impl<'a> Gate for Slow<'a> {
 struct Relief<'a, J: Run> {
     alloc: Global,
     out: &'a Shared<J>,
+    other: PlacedWorker<J>,
 }
 
 impl<'a, J: Run> Gate for Relief<'a, J> {
@@ -90,24 +91,35 @@ impl<'a, J: Run> Gate for Relief<'a, J> {
 
     fn hear<R: Wait>(&mut self, rt: &R, _worker: u16, news: WorkerEvent) {
         if let WorkerEvent::Lost { .. } = news {
-            let other = Watch {
-                number: 1,
-                ..Watch::calm(self.alloc, self.out, 100)
-            };
-            let _ = other.connects(rt, &mut Open, &mut At(INTERVAL));
+            let watch = Watch::calm(self.alloc, self.out, 100);
+            let _ = watch.connects(rt, &mut self.other, &mut Open, &mut At(INTERVAL));
         }
     }
 }
 
+/// An output, and its two workers.
+#[derive(Drop)]
+struct Scene<J: Run> {
+    out: Shared<J>,
+    worker: PlacedWorker<J>,
+    other: PlacedWorker<J>,
+}
+
 /// An output with one chunk, which is open.
-fn with_chunk<J: Run, R: Wait>(rt: &R, alloc: Global, opened: OpenedOutputs) -> Result<Shared<J>>
-    requires { (opened.book ≡ J.book) × (0 < opened.pages) }
+fn with_chunk<J: Run, R: Wait>(rt: &R, alloc: Global, opened: OpenedRun) -> Result<Scene<J>>
+    requires { (opened.book ≡ J.book) × (opened.pages ≡ page_count) }
 {
-    let begun = paged::<J>(alloc, opened, output(2, 100_000))?;
-    let out = SharedOutput::new(Locked::new(alloc, begun, Plain::new(0), Plain::new(0)));
-    let ((), tickets) = admits(rt, alloc, &out, (), Load::new(1, 1));
+    let mut begun = begin::<J>(alloc, opened, output(2, 100_000, 2))?;
+    let (worker, other) = begun.two_workers()?;
+    let source = begun.sources.source()?;
+    let out = begun.shared(Plain::new(0), Plain::new(0));
+    let ((), tickets) = admits(rt, alloc, &out, ((), source), 1);
     abandon_all(rt, &out, tickets);
-    Ok(out)
+    Ok(Scene {
+        out,
+        worker: worker.placed(alloc),
+        other: other.placed(alloc),
+    })
 }
 
 /// A worker that is watched for some turns.
@@ -115,7 +127,6 @@ fn with_chunk<J: Run, R: Wait>(rt: &R, alloc: Global, opened: OpenedOutputs) -> 
 struct Watch<'a, J: Run> {
     alloc: Global,
     out: &'a Shared<J>,
-    number: u16,
     /// What goes wrong over its first link.
     wrong: Option<Wrong>,
     turns: u64,
@@ -127,7 +138,6 @@ impl<'a, J: Run> Watch<'a, J> {
         Watch {
             alloc,
             out,
-            number: 0,
             wrong: None,
             turns,
         }
@@ -137,17 +147,16 @@ impl<'a, J: Run> Watch<'a, J> {
     fn connects<R: Wait, G: Gate, C: Clock>(
         self,
         rt: &R,
+        worker: &mut PlacedWorker<J>,
         gate: &mut G,
         clock: &mut C,
-    ) -> Result<u64> {
+    ) -> u64 {
         let Watch {
             alloc,
             out,
-            number,
             wrong,
             turns,
         } = self;
-        let login = login(alloc)?;
         let got = Got::new();
         let mut hub = Counting {
             hub: FaultyHub {
@@ -159,58 +168,66 @@ impl<'a, J: Run> Watch<'a, J> {
             },
             connects: 0,
         };
-        let rng = ChaCha20Rng::from_seed([0; 32]);
-        let mut worker = Worker::new(alloc, number, login, terms(1), rng);
         let ((), _) = worker.run(rt, out, (), &mut hub, gate, clock, turns);
-        Ok(hub.connects)
+        hub.connects
     }
 }
 
 /// How often one connects at a moment (milliseconds) where another claimed what is free at 0.
-fn where_claimed<J: Run, R: Wait>(
-    rt: &R,
-    alloc: Global,
-    opened: OpenedOutputs,
-    now: u64,
-) -> Result<u64>
-    requires { (opened.book ≡ J.book) × (0 < opened.pages) }
+fn where_claimed<J: Run, R: Wait>(rt: &R, alloc: Global, opened: OpenedRun, now: u64) -> Result<u64>
+    requires { (opened.book ≡ J.book) × (opened.pages ≡ page_count) }
 {
-    let out = with_chunk::<J, R>(rt, alloc, opened)?;
-    out.flush(rt, 0, FlushKind::All);
-    out.claim(rt, 0);
-    Watch::calm(alloc, &out, 3).connects(rt, &mut Open, &mut At(now))
+    let mut scene = with_chunk::<J, R>(rt, alloc, opened)?;
+    scene.out.flush(rt, 0, FlushKind::All);
+    scene.out.claim(rt, 0);
+    let watch = Watch::calm(alloc, &scene.out, 3);
+    Ok(watch.connects(rt, &mut scene.worker, &mut Open, &mut At(now)))
 }
 
 /// How often one connects that loses its first server, where another sends all meanwhile.
-fn where_relieved<J: Run, R: Wait>(rt: &R, alloc: Global, opened: OpenedOutputs) -> Result<u64>
-    requires { (opened.book ≡ J.book) × (0 < opened.pages) }
+fn where_relieved<J: Run, R: Wait>(rt: &R, alloc: Global, opened: OpenedRun) -> Result<u64>
+    requires { (opened.book ≡ J.book) × (opened.pages ≡ page_count) }
 {
-    let out = with_chunk::<J, R>(rt, alloc, opened)?;
+    let Scene {
+        out,
+        mut worker,
+        other,
+    } = with_chunk::<J, R>(rt, alloc, opened)?;
     out.flush(rt, 0, FlushKind::All);
-    let watch = Watch {
-        wrong: Some(Wrong::Fails(1)),
-        ..Watch::calm(alloc, &out, 20)
+    let mut watch = Watch::calm(alloc, &out, 20);
+    watch.wrong = Some(Wrong::Fails(1));
+    let mut relief = Relief {
+        alloc,
+        out: &out,
+        other,
     };
-    watch.connects(rt, &mut Relief { alloc, out: &out }, &mut At(0))
+    Ok(watch.connects(rt, &mut worker, &mut relief, &mut At(0)))
 }
 
 /// How often one connects in a turn for which its gate waited until a chunk was due.
-fn where_slow<J: Run, R: Wait>(rt: &R, alloc: Global, opened: OpenedOutputs) -> Result<u64>
-    requires { (opened.book ≡ J.book) × (0 < opened.pages) }
+fn where_slow<J: Run, R: Wait>(rt: &R, alloc: Global, opened: OpenedRun) -> Result<u64>
+    requires { (opened.book ≡ J.book) × (opened.pages ≡ page_count) }
 {
-    let out = with_chunk::<J, R>(rt, alloc, opened)?;
+    let mut scene = with_chunk::<J, R>(rt, alloc, opened)?;
     let moment = AtomicU64::new(0);
-    Watch::calm(alloc, &out, 1).connects(rt, &mut Slow(&moment), &mut Moved(&moment))
+    let watch = Watch::calm(alloc, &scene.out, 1);
+    let connects = watch.connects(
+        rt,
+        &mut scene.worker,
+        &mut Slow(&moment),
+        &mut Moved(&moment),
+    );
+    Ok(connects)
 }
 
 /// Tells how often a worker connects.
 pub fn tell_all<R: Wait + Print>(rt: &R, alloc: Global) -> Result<()> {
-    let before = where_claimed::<Brand, R>(rt, alloc, OpenedOutputs::new(1), CLAIM - 1)?;
-    let after = where_claimed::<Brand, R>(rt, alloc, OpenedOutputs::new(1), CLAIM)?;
+    let before = where_claimed::<Brand, R>(rt, alloc, OpenedRun::new(usize::MAX), CLAIM - 1)?;
+    let after = where_claimed::<Brand, R>(rt, alloc, OpenedRun::new(usize::MAX), CLAIM)?;
     let _ = println!(rt; "claimed by another worker: {before} connects, and {after} after that");
-    let relieved = where_relieved::<Brand, R>(rt, alloc, OpenedOutputs::new(1))?;
+    let relieved = where_relieved::<Brand, R>(rt, alloc, OpenedRun::new(usize::MAX))?;
     let _ = println!(rt; "all sent by another worker behind a loss: {relieved} connects");
-    let slow = where_slow::<Brand, R>(rt, alloc, OpenedOutputs::new(1))?;
+    let slow = where_slow::<Brand, R>(rt, alloc, OpenedRun::new(usize::MAX))?;
     let _ = println!(rt; "a gate that waits until a chunk is due: {slow} connects in that turn");
     Ok(())
 }

@@ -1,6 +1,7 @@
 //! Two workers at work at once: a gate lets neither settle alone.
 
-use crate::turns::{Post, works};
+use crate::idle_worker::IdleWorker;
+use crate::turns::works;
 use fwd_history::Run;
 use fwd_output::{Plain, SharedOutput};
 use fwd_workers::{Gate, Pass, Place};
@@ -78,7 +79,9 @@ pub fn both_work<J: Run + Send + Sync, R: Threads + Wait + Clock + Sync>(
     rt: &R,
     alloc: Global,
     out: &SharedOutput<Plain<J>, Plain<J>>,
+    workers: (IdleWorker<J>, IdleWorker<J>),
 ) -> (bool, bool) {
+    let (one, other) = workers;
     let sight = Sight::new();
     let seen = &sight;
     let (((), first), ((), second)) = thread::join(
@@ -88,14 +91,16 @@ pub fn both_work<J: Run + Send + Sync, R: Threads + Wait + Clock + Sync>(
                 clock: rt,
                 sight: seen,
             };
-            works(rt, out, (), Post::narrow(alloc, 0), &mut gate)
+            let mut worker = one.placed(alloc);
+            works(rt, (alloc, out), (), &mut worker, &mut gate)
         },
         move || {
             let mut gate = Both {
                 clock: rt,
                 sight: seen,
             };
-            works(rt, out, (), Post::narrow(alloc, 1), &mut gate)
+            let mut worker = other.placed(alloc);
+            works(rt, (alloc, out), (), &mut worker, &mut gate)
         },
     );
     (first, second)

@@ -1,22 +1,24 @@
 //! The life of one worker over links in memory: what it is asked, what it sends and gets, what it
 //! tells, and how it leaves its output.
 
-ghost use Rattle.std.specs.Prelude.{◌≡◌, ◌≤◌, ◌^◌, false, length, Contains};
+ghost use Rattle.std.specs.Prelude.{◌≡◌};
+ghost use Rattle.fwd_run.specs.Pages.{page_count};
 
 use crate::acts::KEY;
-use crate::batches::{login_with, output_at, output_of_one, output_of_three, terms_of};
-use crate::paging::paged;
+use crate::idle_worker::IdleWorker;
+pub use crate::output_plan::Servers;
+use crate::output_plan::{OutputPlan, output};
+use crate::paging::begin;
 use crate::played::{Meetings, PlayedHub};
 use crate::record::Record;
-use crate::turns::{Load, abandon_all, admits};
+use crate::turns::{abandon_all, admits};
 use crate::watched::{Interrupt, Ticking, Watched};
 use anyhow::Result;
 use fwd_history::Run;
 use fwd_model::FlushKind;
-use fwd_output::{Locked, OpenedOutputs, OutputSetup, Plain, SharedOutput};
-use fwd_workers::{Worker, WorkerEnd};
-use rand_chacha::ChaCha20Rng;
-use rand_core::SeedableRng;
+use fwd_output::{Plain, SharedOutput};
+use fwd_run::OpenedRun;
+use fwd_workers::WorkerEnd;
 use std::alloc::Global;
 use std::marker::Brand;
 use std::sync::Wait;
@@ -24,23 +26,12 @@ use std::sync::Wait;
 /// An output that is shared.
 type Out<J> = SharedOutput<Plain<J>, Plain<J>>;
 
-/// Which servers an output has: for each whether it is a standby.
-#[derive(Clone, Copy)]
-pub enum Servers {
-    /// A primary alone.
-    One,
-    /// A primary and a standby.
-    Two,
-    /// Two primaries and a standby.
-    Three,
-}
-
 /// A worker with its output, and what happens to it. Moments are in milliseconds.
 #[derive(Clone, Copy)]
 pub struct Life {
     pub name: &'static str,
-    /// The number of an output with two servers; others have 0.
-    pub output: u16,
+    /// Its output is the second one of its run, whose first one gets no request.
+    pub is_second: bool,
     pub servers: Servers,
     /// How many requests of one entry are admitted at moment 0.
     pub requests: u64,
@@ -65,7 +56,7 @@ pub struct Life {
 /// What most lives have.
 pub const PLAIN: Life = Life {
     name: "",
-    output: 0,
+    is_second: false,
     servers: Servers::Two,
     requests: 1,
     is_closed: true,
@@ -80,36 +71,52 @@ pub const PLAIN: Life = Life {
     looks: [0; 3],
 };
 
-/// What the output of a life begins with.
-fn setup_of(life: Life) -> OutputSetup<'static>
-    ensures { (length result.standby.now ≤ 16) × Contains result.standby.now false }
-{
-    let chunk = if life.is_closed { 3 } else { 1000 };
-    match life.servers {
-        Servers::One => output_of_one(chunk, 100_000),
-        Servers::Two => output_at(life.output, chunk, 100_000),
-        Servers::Three => output_of_three(chunk, 100_000),
+impl Life {
+    /// What its output is set to: it has a worker more, which looks at it afterwards.
+    fn plan(self) -> OutputPlan {
+        let chunk = if self.is_closed { 3 } else { 1000 };
+        OutputPlan {
+            is_second: self.is_second,
+            servers: self.servers,
+            window: self.window,
+            ack_wait: self.ack_wait,
+            key: if self.is_keyed { Some(KEY) } else { None },
+            ..output(chunk, 100_000, self.worker.saturating_add(2))
+        }
     }
 }
 
+/// An output in which a life begins, its worker, and another one.
+#[derive(Drop)]
+struct Scene<J: Run> {
+    out: Out<J>,
+    worker: IdleWorker<J>,
+    looker: IdleWorker<J>,
+}
+
 /// The output of a life before its first turn.
-fn output_of<J: Run, R: Wait>(
+fn scene_of<J: Run, R: Wait>(
     rt: &R,
     alloc: Global,
     life: Life,
-    opened: OpenedOutputs,
-) -> Result<Out<J>>
-    requires { (opened.book ≡ J.book) × (opened.pages ≡ 2 ^ 16) }
+    opened: OpenedRun,
+) -> Result<Scene<J>>
+    requires { (opened.book ≡ J.book) × (opened.pages ≡ page_count) }
 {
-    let begun = paged::<J>(alloc, opened, setup_of(life))?;
-    let out = SharedOutput::new(Locked::new(alloc, begun, Plain::new(0), Plain::new(0)));
-    let load = Load::new(1, life.requests);
-    let ((), tickets) = admits(rt, alloc, &out, (), load);
+    let mut begun = begin::<J>(alloc, opened, life.plan())?;
+    let (worker, looker) = begun.two_workers()?;
+    let source = begun.sources.source()?;
+    let out = begun.shared(Plain::new(0), Plain::new(0));
+    let ((), tickets) = admits(rt, alloc, &out, ((), source), life.requests);
     abandon_all(rt, &out, tickets);
     if life.is_closed {
         out.flush(rt, 0, FlushKind::All);
     }
-    Ok(out)
+    Ok(Scene {
+        out,
+        worker,
+        looker,
+    })
 }
 
 /// A life that is being told.
@@ -123,11 +130,8 @@ struct Telling<J: Run> {
 
 impl<J: Run> Telling<J> {
     /// The run of the worker.
-    fn run<R: Wait>(&self, rt: &R) -> Result<WorkerEnd> {
+    fn run<R: Wait>(&self, rt: &R, worker: IdleWorker<J>) -> Result<WorkerEnd> {
         let Life {
-            worker,
-            ack_wait,
-            window,
             turns,
             meetings,
             interrupt,
@@ -135,11 +139,7 @@ impl<J: Run> Telling<J> {
         } = self.life;
         let mut hub = PlayedHub::new(self.alloc, self.record.share()?, meetings);
         let mut gate = Watched::new(self.alloc, self.record.share()?, interrupt);
-        let key = if self.life.is_keyed { Some(KEY) } else { None };
-        let login = login_with(self.alloc, key)?;
-        let acks = terms_of(window, ack_wait);
-        let rng = ChaCha20Rng::from_seed([0; 32]);
-        let mut worker = Worker::new(self.alloc, worker, login, acks, rng);
+        let mut worker = worker.placed(self.alloc);
         let mut clock = Ticking::new(self.life.tick);
         let ((), ended) = worker.run(rt, &self.out, (), &mut hub, &mut gate, &mut clock, turns);
         Ok(ended)
@@ -160,60 +160,61 @@ impl<J: Run> Telling<J> {
         self.record.note_made(rt, made);
     }
 
-    /// Which server the worker would try at a moment (milliseconds), and which chunk it would get.
-    fn note_look<R: Wait>(&self, rt: &R, now: u64) {
+    /// Which server the worker would try at a moment (milliseconds), and which chunk it would get:
+    /// another one takes it, and gives it back.
+    fn note_look<R: Wait>(&self, rt: &R, looker: IdleWorker<J>, now: u64) -> IdleWorker<J> {
         let server = self.out.choose(rt, self.life.worker, now);
         let made = match server {
             Some(server) => format!(in self.alloc; "\n  at {now}: server {server}"),
             None => format!(in self.alloc; "\n  at {now}: no server"),
         };
         self.record.note_made(rt, made);
-        self.note_chunk(rt, now);
+        self.note_chunk(rt, looker, now)
     }
 
-    /// Which chunk the worker would get. It goes back without a loss.
-    fn note_chunk<R: Wait>(&self, rt: &R, now: u64) {
-        let taken = self
-            .out
-            .take(rt, self.alloc, &mut (), self.life.worker, now);
-        let Ok(Some(chunk)) = taken else {
-            self.record.note(rt, ", no chunk");
-            return;
-        };
-        let number = chunk.number();
-        let loaded = Vec::new(self.alloc);
-        self.out.end(rt, &mut (), Some(chunk), loaded, None, now);
-        self.record
-            .note_made(rt, format!(in self.alloc; ", chunk {number}"));
+    /// Which chunk a worker would get. It goes back without a loss.
+    fn note_chunk<R: Wait>(&self, rt: &R, looker: IdleWorker<J>, now: u64) -> IdleWorker<J> {
+        match looker.take(rt, self.alloc, &mut (), &self.out, now) {
+            Err(looker) => {
+                self.record.note(rt, ", no chunk");
+                looker
+            }
+            Ok(holding) => {
+                let number = holding.chunk().number();
+                self.record
+                    .note_made(rt, format!(in self.alloc; ", chunk {number}"));
+                holding.put_back(rt, &mut (), &self.out, now)
+            }
+        }
     }
 }
 
 /// All that happens in a life, in a run that this history is of.
-fn lived_by<J: Run, R: Wait>(
-    rt: &R,
-    alloc: Global,
-    life: Life,
-    opened: OpenedOutputs,
-) -> Result<String>
-    requires { (opened.book ≡ J.book) × (opened.pages ≡ 2 ^ 16) }
+fn lived_by<J: Run, R: Wait>(rt: &R, alloc: Global, life: Life, opened: OpenedRun) -> Result<String>
+    requires { (opened.book ≡ J.book) × (opened.pages ≡ page_count) }
 {
+    let Scene {
+        out,
+        worker,
+        looker,
+    } = scene_of::<J, R>(rt, alloc, life, opened)?;
     let telling = Telling {
         alloc,
         life,
-        out: output_of::<J, R>(rt, alloc, life, opened)?,
+        out,
         record: Record::new(alloc)?,
     };
     telling.record.note(rt, life.name);
-    let ended = telling.run(rt)?;
+    let ended = telling.run(rt, worker)?;
     telling.note_end(rt, ended);
-    let [first, second, third] = life.looks;
-    telling.note_look(rt, first);
-    telling.note_look(rt, second);
-    telling.note_look(rt, third);
+    let mut looker = looker;
+    for look in life.looks {
+        looker = telling.note_look(rt, looker, look);
+    }
     Ok(telling.record.text(rt)?)
 }
 
 /// All that happens in a life.
 pub fn lived<R: Wait>(rt: &R, alloc: Global, life: Life) -> Result<String> {
-    lived_by::<Brand, R>(rt, alloc, life, OpenedOutputs::new(65_536))
+    lived_by::<Brand, R>(rt, alloc, life, OpenedRun::new(usize::MAX))
 }

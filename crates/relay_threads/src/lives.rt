@@ -566,7 +566,7 @@ static NUMBERS: [Life; 4] = [
     },
     Life {
         name: "output 1",
-        output: 1,
+        is_second: true,
         turns: 5,
         meetings: &[Some(&[Act::Acks])],
         looks: [5, 6, 7],

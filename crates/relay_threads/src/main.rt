@@ -3,7 +3,8 @@
 //! compilers build it.
 #![tactic(auto)]
 
-ghost use Rattle.std.specs.Prelude.{◌≡◌, ◌<◌};
+ghost use Rattle.std.specs.Prelude.{◌≡◌};
+ghost use Rattle.fwd_run.specs.Pages.{page_count};
 
 mod acts;
 mod batches;
@@ -12,10 +13,12 @@ mod connects;
 mod day;
 mod faulty;
 mod gates;
+mod idle_worker;
 mod life;
 mod lives;
 mod memory;
 mod mirror;
+mod output_plan;
 mod paging;
 mod played;
 mod readers;
@@ -23,19 +26,20 @@ mod record;
 mod scarce;
 mod seats;
 mod serving;
+mod test_source;
 mod thread_share;
 mod trials;
 mod turns;
 mod watched;
 
-use crate::batches::output;
-use crate::mirror::{Story, are_alike, played_bare, played_behind};
-use crate::paging::paged;
-use crate::turns::Load;
+use crate::mirror::{Story, are_alike, played_alone, played_bare, played_behind};
+use crate::output_plan::output;
+use crate::paging::begin;
 use anyhow::Result;
 use fwd_history::Run;
 use fwd_model::FlushKind;
-use fwd_output::{Closing, Locked, OpenedOutputs, Plain, SharedOutput};
+use fwd_output::{Closing, Plain};
+use fwd_run::OpenedRun;
 use std::alloc::Global;
 use std::marker::Brand;
 use std::rt::Clock;
@@ -103,15 +107,17 @@ fn tell_readers<R: Threads + Wait + Sync + Print>(rt: &R, alloc: Global) -> Resu
 fn tell_gates_by<J: Run + Send + Sync, R: Threads + Wait + Clock + Sync + Print>(
     rt: &R,
     alloc: Global,
-    opened: OpenedOutputs,
+    opened: OpenedRun,
 ) -> Result<()>
-    requires { (opened.book ≡ J.book) × (0 < opened.pages) }
+    requires { (opened.book ≡ J.book) × (opened.pages ≡ page_count) }
 {
-    let begun = paged::<J>(alloc, opened, output(2, 100_000))?;
-    let out = SharedOutput::new(Locked::new(alloc, begun, Plain::new(0), Plain::new(0)));
-    let ((), tickets) = turns::admits(rt, alloc, &out, (), Load::new(1, 2));
+    let mut begun = begin::<J>(alloc, opened, output(2, 100_000, 2))?;
+    let workers = begun.two_workers()?;
+    let source = begun.sources.source()?;
+    let out = begun.shared(Plain::new(0), Plain::new(0));
+    let ((), tickets) = turns::admits(rt, alloc, &out, ((), source), 2);
     out.flush(rt, 0, FlushKind::All);
-    let stopped = gates::both_work(rt, alloc, &out);
+    let stopped = gates::both_work(rt, alloc, &out, workers);
     let (receipts, left) = turns::collected(rt, alloc, &out, tickets);
     let _ = println!(rt; "at once: stopped {stopped:?}, receipts {receipts}, left {left}");
     Ok(())
@@ -119,7 +125,7 @@ fn tell_gates_by<J: Run + Send + Sync, R: Threads + Wait + Clock + Sync + Print>
 
 /// Two workers that settle only together.
 fn tell_gates<R: Threads + Wait + Clock + Sync + Print>(rt: &R, alloc: Global) -> Result<()> {
-    tell_gates_by::<Brand, R>(rt, alloc, OpenedOutputs::new(1))
+    tell_gates_by::<Brand, R>(rt, alloc, OpenedRun::new(usize::MAX))
 }
 
 /// The stories, with and without a lock.
@@ -132,6 +138,9 @@ fn tell_stories<R: Wait + Print>(rt: &R, alloc: Global) -> Result<()> {
         let answers = behind.text;
         let _ = println!(rt; "{name}: {calls} calls, alike: {alike}:{answers}");
     }
+    let alone = played_alone(alloc)?;
+    let (calls, answers) = (alone.counts.len(), alone.text);
+    let _ = println!(rt; "a chunk is lost without its server: {calls} calls:{answers}");
     Ok(())
 }
 

@@ -17,6 +17,7 @@ const NAME: usize = 24;
 /// A link to a server that acknowledges each frame once it has it whole.
 #[derive(Drop)]
 pub struct Wire {
+    alloc: Global,
     /// All bytes that it took.
     taken: Vec<u8>,
     /// How many of them were acknowledged.
@@ -44,11 +45,17 @@ impl Wire {
         ensures { result.calls.list ≡ [] }
     {
         Wire {
+            alloc,
             taken: Vec::new(alloc),
             answered: 0,
             most,
             calls: Calls::none(),
         }
+    }
+
+    /// Where its memory comes from.
+    pub fn alloc(&self) -> Global {
+        self.alloc
     }
 
     /// Whether it took just these bytes.

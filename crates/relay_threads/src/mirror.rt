@@ -1,27 +1,22 @@
-//! The same calls on an output and on the same output behind its lock: equal answers, and equal
-//! counts after each.
+//! The same calls on an output and on one that is shared: equal answers, and equal counts after
+//! each.
 
-ghost use Rattle.std.specs.Prelude.{◌≡◌, ◌<◌, ◌≤◌, false, length, Contains, IfSome, IfOk, None};
-ghost use Rattle.std.specs.Arc.{arc_value};
-ghost use Rattle.fwd_session.specs.ServerAcks.{IsServerAck};
+ghost use Rattle.std.specs.Prelude.{◌≡◌};
+ghost use Rattle.fwd_run.specs.Pages.{page_count};
 
-use crate::batches::{
-    LONGER, MESSAGE, OTHER, THREE, batch, drop_chunk, drop_session, left_as, login, output,
-    output_of_three, terms,
-};
-use crate::calls::{Behind, Output};
-use crate::paging::paged;
+use crate::batches::{LONGER, MESSAGE, OTHER, THREE};
+use crate::calls::{Bare, Behind, Ending, Output};
+use crate::output_plan::{OutputPlan, Servers, output};
+use crate::paging::begin;
 use anyhow::Result;
-use fwd_base::Bytes;
 use fwd_chunks::Carried;
 use fwd_history::Run;
-use fwd_model::{Counts, FlushKind, Origin, OwnedSalt};
-use fwd_output::{AdmitRefusal, Locked, OpenedOutputs, OutputSetup, Plain, SharedOutput, Ticket};
-use fwd_session::{Acked, LoadFailed, Session};
+use fwd_model::{Counts, FlushKind};
+use fwd_output::{AdmitRefusal, OutputState, Plain};
+use fwd_run::OpenedRun;
 use std::alloc::Global;
 use std::marker::Brand;
-use std::mem;
-use std::sync::{Arc, Wait};
+use std::sync::Wait;
 
 /// What the calls of a story answered.
 #[derive(Drop)]
@@ -33,6 +28,14 @@ pub struct Notes {
 }
 
 impl Notes {
+    /// Nothing yet.
+    fn new(alloc: Global) -> Notes {
+        Notes {
+            text: String::new(alloc),
+            counts: Vec::new(alloc),
+        }
+    }
+
     /// Goes on with an answer of these numbers, and the counts after it.
     fn put(&mut self, answer: &str, numbers: &[u64], counts: Counts) {
         let _ = write!(self.text, " {answer}");
@@ -53,71 +56,37 @@ fn refused(refusal: AdmitRefusal) -> &'static str {
     }
 }
 
-/// An output, what it answered so far, and the tickets that it gave.
-struct Play<'a, O: Output> {
-    alloc: Global,
-    out: &'a mut O,
+/// An output, and what it answered so far. It must be spent: by `end`.
+struct Play<O: Output> {
+    out: O,
     notes: Notes,
-    tickets: Vec<Ticket>,
 }
 
-/// The reply to a chunk, and the chunk.
-fn acknowledged(alloc: Global, chunk: Carried) -> Option<(Arc<Acked>, Carried)>
-    ensures { IfSome result (λ pair. IsServerAck (arc_value pair.0) pair.1) }
-{
-    let Ok(login) = login(alloc) else {
-        drop_chunk(alloc, chunk);
-        return None;
-    };
-    let Some(salt) = OwnedSalt::new(Bytes::new(alloc)) else {
-        drop_chunk(alloc, chunk);
-        return None;
-    };
-    let mut reply = [0; 30];
-    reply[..6].copy_from_slice(b"\x81\xa3ack\xb8");
-    reply[6..].copy_from_slice(chunk.name());
-    let Ok(mut session) = Session::up(alloc, 0, login, salt, terms(1), 0) else {
-        drop_chunk(alloc, chunk);
-        return None;
-    };
-    if let Err(LoadFailed { chunk, error: _ }) = session.load(alloc, chunk, 0) {
-        drop_chunk(alloc, chunk);
+impl<O: Output> Play<O> {
+    /// Nothing was played yet.
+    fn new(alloc: Global, out: O) -> Play<O> {
+        Play {
+            out,
+            notes: Notes::new(alloc),
+        }
     }
-    session.wrote(session.waiting() as usize);
-    let _told = session.heard(alloc, &reply);
-    let acked = session.acked();
-    drop_session(alloc, session);
-    acked
-}
 
-impl<'a, O: Output> Play<'a, O> {
     /// Notes an answer of these numbers, with the counts after it.
     fn note(&mut self, answer: &str, numbers: &[u64]) {
         let counts = self.out.counts();
         self.notes.put(answer, numbers, counts);
     }
 
-    /// Admits a request of a connection at moment 0.
+    /// The next request of a connection is admitted at moment 0.
     fn admit(&mut self, conn: u64, bytes: &[u8]) {
         self.admit_at(conn, bytes, 0);
     }
 
-    /// Admits a request of a connection at a moment (milliseconds).
+    /// The next request of a connection is admitted at a moment (milliseconds).
     fn admit_at(&mut self, conn: u64, bytes: &[u8], now: u64) {
-        let Ok(batch) = batch(self.alloc, bytes) else {
-            return;
-        };
-        if self.tickets.reserve(1).is_err() {
-            return;
-        }
-        let origin = Origin { conn, request: 1 };
-        match self.out.admit(self.alloc, origin, batch, now) {
-            Ok(ticket) => {
-                let runs = ticket.spans().len();
-                self.tickets.push_reserved(ticket);
-                self.note("Admitted", &[runs as u64]);
-            }
-            Err((refusal, _)) => self.note(refused(refusal), &[]),
+        match self.out.admit(conn, bytes, now) {
+            Ok(runs) => self.note("Admitted", &[runs as u64]),
+            Err(refusal) => self.note(refused(refusal), &[]),
         }
     }
 
@@ -134,38 +103,36 @@ impl<'a, O: Output> Play<'a, O> {
     }
 
     /// A worker takes a chunk at a moment (milliseconds).
-    fn take(&mut self, worker: u16, now: u64) -> Option<Carried> {
-        let chunk = self.out.take(self.alloc, worker, now);
-        match &chunk {
-            None => self.note("TookNothing", &[]),
-            Some(carried) => {
-                let (number, count) = (carried.number(), carried.count());
-                self.note("Took", &[number, count as u64]);
-            }
-        }
-        chunk
+    fn take(&mut self, worker: u16, now: u64) -> Option<O::Hand> {
+        let Some(hand) = self.out.take(worker, now) else {
+            self.note("TookNothing", &[]);
+            return None;
+        };
+        let chunk = O::chunk(&hand);
+        let (number, count) = (chunk.number(), chunk.count());
+        self.note("Took", &[number, count as u64]);
+        Some(hand)
     }
 
     /// A chunk is acknowledged and settled, if there is one.
-    fn settle(&mut self, chunk: Option<Carried>) {
-        let Some(chunk) = chunk else {
-            return;
-        };
-        if let Some((acked, chunk)) = acknowledged(self.alloc, chunk) {
-            let count = self.out.settle(acked, chunk);
+    fn settle(&mut self, hand: Option<O::Hand>) {
+        if let Some(hand) = hand {
+            let count = self.out.settle(hand);
             self.note("Settled", &[count]);
         }
     }
 
-    /// A worker's end at a moment (milliseconds), with a loss of its chunk and of server 0.
-    fn end(&mut self, chunk: Option<Carried>, now: u64) {
-        self.end_as(chunk, Some(0), true, now);
+    /// The end of a worker that took a chunk, if it did, at a moment (milliseconds).
+    fn end(&mut self, hand: Option<O::Hand>, ending: Ending, now: u64) {
+        if let Some(hand) = hand {
+            self.out.end(hand, ending, now);
+            self.note("Done", &[]);
+        }
     }
 
-    /// A worker's end at a moment (milliseconds): a server may be lost, and its chunk may be.
-    fn end_as(&mut self, chunk: Option<Carried>, server: Option<u16>, lost: bool, now: u64) {
-        let (taken, loaded) = left_as(self.alloc, chunk, lost);
-        self.out.end(taken, loaded, server, now);
+    /// A server is lost at a moment (milliseconds), and no chunk.
+    fn lose(&mut self, server: u16, now: u64) {
+        self.out.lose(server, now);
         self.note("Done", &[]);
     }
 
@@ -177,47 +144,39 @@ impl<'a, O: Output> Play<'a, O> {
         }
     }
 
-    /// Hands in all tickets.
+    /// Whoever is due is told.
     fn collect(&mut self) {
-        let all = mem::replace(&mut self.tickets, Vec::new(self.alloc));
-        let (receipts, back) = match self.out.collect(self.alloc, all) {
-            Ok((receipts, back)) => (receipts.len(), back),
-            Err((_, back)) => (0, back),
-        };
-        let left = back.len();
-        let none = mem::replace(&mut self.tickets, back);
-        none.destroy_empty();
-        self.note("Collected", &[receipts as u64, left as u64]);
+        let (told, left) = self.out.collect();
+        self.note("Collected", &[told as u64, left as u64]);
     }
 
-    /// The oldest ticket is abandoned.
+    /// Nobody is to be told any more of the oldest request that is owed an answer.
     fn abandon(&mut self) {
-        if !self.tickets.is_empty() {
-            let ticket = self.tickets.remove(0);
-            self.out.abandon(ticket);
+        if self.out.abandon() {
             self.note("Done", &[]);
         }
     }
 
-    /// What was noted. The tickets that are left are abandoned.
+    /// What was noted.
     fn end_play(self) -> Notes {
-        let Play {
-            alloc: _,
-            out,
-            notes,
-            tickets,
-        } = self;
-        let mut rest = tickets.into_iter();
-        while let Some(ticket) = rest.next() {
-            out.abandon(ticket);
-        }
-        rest.destroy_empty();
+        let Play { out, notes } = self;
+        out.close();
         notes
     }
 }
 
+impl Play<Bare> {
+    /// A chunk is lost at a moment (milliseconds), and its server is not. No worker does that.
+    fn lose_chunk(&mut self, chunk: Option<Carried>, now: u64) {
+        if let Some(chunk) = chunk {
+            self.out.lose_chunk(chunk, now);
+            self.note("Done", &[]);
+        }
+    }
+}
+
 /// The calls of one way there and back, with a collect before the settle, after it, and once more.
-fn way_back<O: Output>(play: &mut Play<'_, O>) {
+fn way_back<O: Output>(play: &mut Play<O>) {
     play.admit(1, MESSAGE);
     play.flush();
     let chunk = play.take(0, 0);
@@ -228,7 +187,7 @@ fn way_back<O: Output>(play: &mut Play<'_, O>) {
 }
 
 /// A request in two chunks, settled in this order: the later one first, or not.
-fn in_two<O: Output>(play: &mut Play<'_, O>, later_first: bool) {
+fn in_two<O: Output>(play: &mut Play<O>, later_first: bool) {
     play.admit(1, THREE);
     play.flush();
     let first = play.take(0, 0);
@@ -246,11 +205,11 @@ fn in_two<O: Output>(play: &mut Play<'_, O>, later_first: bool) {
 }
 
 /// A chunk that is lost with its server, and waits for its next try.
-fn lost<O: Output>(play: &mut Play<'_, O>) {
+fn lost<O: Output>(play: &mut Play<O>) {
     play.admit(1, MESSAGE);
     play.flush();
     let chunk = play.take(0, 0);
-    play.end(chunk, 2000);
+    play.end(chunk, Ending::Lost, 2000);
     play.choose(0, 2499);
     let early = play.take(0, 2499);
     play.settle(early);
@@ -259,8 +218,9 @@ fn lost<O: Output>(play: &mut Play<'_, O>) {
     play.collect();
 }
 
-/// An output that is full for the second of three requests, and the same request twice.
-fn full<O: Output>(play: &mut Play<'_, O>) {
+/// An output that is full for the second of three requests, and for a second one of the first
+/// connection.
+fn full<O: Output>(play: &mut Play<O>) {
     play.admit(1, MESSAGE);
     play.admit(2, LONGER);
     play.admit(3, MESSAGE);
@@ -268,7 +228,7 @@ fn full<O: Output>(play: &mut Play<'_, O>) {
 }
 
 /// A request that is abandoned before its chunk is settled.
-fn abandoned<O: Output>(play: &mut Play<'_, O>) {
+fn abandoned<O: Output>(play: &mut Play<O>) {
     play.admit(1, MESSAGE);
     play.flush();
     let chunk = play.take(0, 0);
@@ -278,7 +238,7 @@ fn abandoned<O: Output>(play: &mut Play<'_, O>) {
 }
 
 /// Requests of two tags that come at two moments, and flushes before and behind their intervals.
-fn due<O: Output>(play: &mut Play<'_, O>) {
+fn due<O: Output>(play: &mut Play<O>) {
     play.admit_at(1, MESSAGE, 0);
     play.flush_due(999);
     play.admit_at(2, OTHER, 1200);
@@ -288,15 +248,15 @@ fn due<O: Output>(play: &mut Play<'_, O>) {
 }
 
 /// Two workers choose among two primaries and a standby, before and behind the servers' waits.
-fn choices<O: Output>(play: &mut Play<'_, O>) {
+fn choices<O: Output>(play: &mut Play<O>) {
     play.choose(0, 0);
     play.choose(1, 0);
-    play.end_as(None, Some(0), false, 1000);
+    play.lose(0, 1000);
     play.choose(0, 1499);
     play.choose(1, 1499);
     play.choose(0, 1500);
-    play.end_as(None, Some(0), false, 2000);
-    play.end_as(None, Some(1), false, 2000);
+    play.lose(0, 2000);
+    play.lose(1, 2000);
     play.choose(0, 2499);
     play.choose(0, 2500);
     play.choose(1, 2500);
@@ -304,27 +264,27 @@ fn choices<O: Output>(play: &mut Play<'_, O>) {
     play.choose(1, 3000);
 }
 
-/// A chunk that is put back without a loss, with one, and with its server lost alone.
-fn returns<O: Output>(play: &mut Play<'_, O>) {
+/// A chunk that is put back without a loss, with one, and without one from a server that is lost.
+fn returns<O: Output>(play: &mut Play<O>) {
     play.admit(1, MESSAGE);
     play.flush();
     let chunk = play.take(0, 0);
-    play.end_as(chunk, None, false, 100);
+    play.end(chunk, Ending::Back, 100);
     let again = play.take(0, 100);
-    play.end_as(again, None, true, 200);
+    play.end(again, Ending::Lost, 200);
     play.choose(0, 200);
     let early = play.take(0, 699);
     play.settle(early);
     let late = play.take(0, 700);
-    play.end_as(late, Some(0), false, 800);
+    play.end(late, Ending::BackFromLost, 800);
     play.choose(0, 800);
     let last = play.take(0, 800);
     play.settle(last);
     play.collect();
 }
 
-/// A request that is abandoned, and admitted again under its origin.
-fn again<O: Output>(play: &mut Play<'_, O>) {
+/// A request that is abandoned, and another one of its connection.
+fn again<O: Output>(play: &mut Play<O>) {
     play.admit(1, MESSAGE);
     play.flush();
     let first = play.take(0, 0);
@@ -381,16 +341,8 @@ impl Story {
 }
 
 /// What a story's calls answer.
-fn played<O: Output>(alloc: Global, out: &mut O, story: Story) -> Notes {
-    let mut play = Play {
-        alloc,
-        out,
-        notes: Notes {
-            text: String::new(alloc),
-            counts: Vec::new(alloc),
-        },
-        tickets: Vec::new(alloc),
-    };
+fn played<O: Output>(alloc: Global, out: O, story: Story) -> Notes {
+    let mut play = Play::new(alloc, out);
     match story {
         Story::WayBack => way_back(&mut play),
         Story::LaterFirst => in_two(&mut play, true),
@@ -406,64 +358,71 @@ fn played<O: Output>(alloc: Global, out: &mut O, story: Story) -> Notes {
     play.end_play()
 }
 
-/// What the output of a story begins with.
-fn setup_of(story: Story) -> OutputSetup<'static>
-    ensures number { result.output ≡ 0 }
-    ensures servers { (length result.standby.now ≤ 16) × Contains result.standby.now false }
-{
+/// What the output of a story is set to.
+fn plan_of(story: Story) -> OutputPlan {
     let (chunk, total) = story.limits();
-    match story {
-        Story::Choices => output_of_three(chunk, total),
-        _ => output(chunk, total),
+    let servers = match story {
+        Story::Choices => Servers::Three,
+        _ => Servers::Two,
+    };
+    OutputPlan {
+        servers,
+        ..output(chunk, total, 2)
     }
 }
 
-/// An output and its counters, in a run that this history is of.
-fn locked<J: Run>(
-    alloc: Global,
-    story: Story,
-    opened: OpenedOutputs,
-) -> Result<Locked<Plain<J>, Plain<J>>>
-    requires { (opened.book ≡ J.book) × (0 < opened.pages) }
-{
-    let begun = paged::<J>(alloc, opened, setup_of(story))?;
-    Ok(Locked::new(alloc, begun, Plain::new(0), Plain::new(0)))
-}
-
-/// What a story's calls answer on an output itself, in a run that this history is of.
-fn played_bare_by<J: Run>(alloc: Global, story: Story, opened: OpenedOutputs) -> Result<Notes>
-    requires { (opened.book ≡ J.book) × (0 < opened.pages) }
-{
-    let mut out = locked::<J>(alloc, story, opened)?;
-    Ok(played(alloc, &mut out, story))
+/// The output of a story itself.
+fn bare(alloc: Global, story: Story) -> Result<Bare> {
+    let plan = plan_of(story);
+    let state = OutputState::new(alloc, plan.limits(), [0; 6], 0, plan.servers.standby())?;
+    Ok(Bare::new(alloc, state))
 }
 
 /// What a story's calls answer on an output itself.
 pub fn played_bare(alloc: Global, story: Story) -> Result<Notes> {
-    played_bare_by::<Brand>(alloc, story, OpenedOutputs::new(1))
+    Ok(played(alloc, bare(alloc, story)?, story))
 }
 
-/// What a story's calls answer on the same output behind its lock, in a run that this history is
-/// of.
+/// What is answered on an output itself where a chunk is lost without its server, and then taken
+/// again.
+pub fn played_alone(alloc: Global) -> Result<Notes> {
+    let mut play = Play::new(alloc, bare(alloc, Story::Returns)?);
+    play.admit(1, MESSAGE);
+    play.flush();
+    let chunk = play.take(0, 100);
+    play.lose_chunk(chunk, 200);
+    play.choose(0, 200);
+    let early = play.take(0, 699);
+    play.settle(early);
+    let late = play.take(0, 700);
+    play.settle(late);
+    play.collect();
+    Ok(play.end_play())
+}
+
+/// What a story's calls answer on such an output behind its lock, in a run that this history is of.
 fn played_behind_by<J: Run, R: Wait>(
     rt: &R,
     alloc: Global,
     story: Story,
-    opened: OpenedOutputs,
+    opened: OpenedRun,
 ) -> Result<Notes>
-    requires { (opened.book ≡ J.book) × (0 < opened.pages) }
+    requires { (opened.book ≡ J.book) × (opened.pages ≡ page_count) }
 {
-    let shared = SharedOutput::new(locked::<J>(alloc, story, opened)?);
-    let mut behind = Behind { rt, shared };
-    Ok(played(alloc, &mut behind, story))
+    let mut begun = begin::<J>(alloc, opened, plan_of(story))?;
+    let (sources, workers) = (begun.sources.take(3)?, begun.all_workers());
+    let shared = begun.shared(Plain::new(0), Plain::new(0));
+    let behind = Behind::new(rt, alloc, shared, sources, workers);
+    Ok(played(alloc, behind, story))
 }
 
-/// What a story's calls answer on the same output behind its lock.
+/// What a story's calls answer on such an output behind its lock.
 pub fn played_behind<R: Wait>(rt: &R, alloc: Global, story: Story) -> Result<Notes> {
-    played_behind_by::<Brand, R>(rt, alloc, story, OpenedOutputs::new(1))
+    played_behind_by::<Brand, R>(rt, alloc, story, OpenedRun::new(usize::MAX))
 }
 
-/// Whether an output answered alike, with and without its lock, and counted alike after each call.
+/// Whether an output answered alike, by itself and behind its lock, and counted alike after each
+/// call.
 pub fn are_alike(bare: &Notes, behind: &Notes) -> bool {
     let is_text = bare.text.as_str() == behind.text.as_str();
     is_text && bare.counts.as_slice() == behind.counts.as_slice()

@@ -1,19 +1,22 @@
 //! Four readers: each admits from a seat of its own, and keeps the tickets of its requests to
 //! itself, while workers send.
 
-ghost use Rattle.std.specs.Prelude.{◌≡◌, ◌+◌, ◌<◌, IfOk};
+ghost use Rattle.std.specs.Prelude.{◌≡◌, ◌+◌, IfOk};
+ghost use Rattle.fwd_run.specs.Pages.{page_count};
 
-use crate::batches::{MESSAGE, batch, output};
+use crate::batches::MESSAGE;
 use crate::memory::Open;
-use crate::paging::paged;
-use crate::turns::{Post, abandon_all, works};
+use crate::output_plan::output;
+use crate::paging::begin;
+use crate::test_source::{Sources, TestSource};
+use crate::turns::{abandon_all, works};
 use anyhow::Result;
 use fwd_book::Receipt;
 use fwd_history::Run;
-use fwd_model::{FlushKind, Origin};
-use fwd_output::{
-    Closing, Ledgered, Locked, OpenedOutputs, Seat, SharedOutput, Tally, Ticket, open,
-};
+use fwd_model::FlushKind;
+use fwd_output::{Closing, Ledgered, Seat, SharedOutput, Tally, Ticket, open};
+use fwd_run::OpenedRun;
+use fwd_workers::PlacedWorker;
 use std::alloc::Global;
 use std::marker::Brand;
 use std::sync::Wait;
@@ -41,18 +44,21 @@ pub struct Told {
     pub strange: u64,
 }
 
-/// The requests that a reader admitted and was not told of, and what it was told.
-struct Store {
-    number: u64,
+/// A reader's source, the requests that the reader admitted and was not told of, and what it was
+/// told. It must be spent: by `end`.
+struct Store<J: Run> {
+    alloc: Global,
+    source: TestSource<J>,
     tickets: Vec<Ticket>,
     told: Told,
 }
 
-impl Store {
-    /// The reader of this number has admitted nothing.
-    fn new(alloc: Global, number: u64) -> Store {
+impl<J: Run> Store<J> {
+    /// The reader of this source has admitted nothing.
+    fn new(alloc: Global, source: TestSource<J>) -> Store<J> {
         Store {
-            number,
+            alloc,
+            source,
             tickets: Vec::new(alloc),
             told: Told {
                 told: 0,
@@ -62,38 +68,26 @@ impl Store {
     }
 
     /// The reader admits a request of one entry from its seat.
-    fn admit<L: Ledger + Run, M: Ledger + Run, R: Wait>(
+    fn admit<A: Tally<Run = J>, S: Tally, R: Wait>(
         &mut self,
         rt: &R,
-        alloc: Global,
-        out: &Counted<L, M>,
-        seat: &mut Seat<L>,
-        request: u64,
+        out: &SharedOutput<A, S>,
+        seat: &mut A::Seat,
     )
-        ensures { seat.new.parts ≡ seat.old.parts }
+        ensures { A.parts seat.new ≡ A.parts seat.old }
     {
-        let conn = self.number;
-        let origin = Origin { conn, request };
         if self.tickets.reserve(1).is_err() {
             return;
         }
-        let Ok(batch) = batch(alloc, MESSAGE) else {
-            return;
-        };
-        if let Ok(ticket) = out.admit(rt, alloc, seat, origin, batch, 0) {
+        if let Ok(ticket) = self.source.admit(rt, seat, out, MESSAGE, 0) {
             self.tickets.push_reserved(ticket);
         }
     }
 
     /// The reader collects receipts for its tickets.
-    fn collect<L: Ledger + Run, M: Ledger + Run, R: Wait>(
-        &mut self,
-        rt: &R,
-        alloc: Global,
-        out: &Counted<L, M>,
-    ) {
-        let tickets = mem::replace(&mut self.tickets, Vec::new(alloc));
-        match out.collect(rt, alloc, tickets) {
+    fn collect<A: Tally<Run = J>, S: Tally, R: Wait>(&mut self, rt: &R, out: &SharedOutput<A, S>) {
+        let tickets = mem::replace(&mut self.tickets, Vec::new(self.alloc));
+        match out.collect(rt, self.alloc, tickets) {
             Ok((receipts, left, _)) => {
                 mem::replace(&mut self.tickets, left).destroy_empty();
                 self.note(&receipts);
@@ -106,7 +100,7 @@ impl Store {
     fn note(&mut self, receipts: &[Receipt]) {
         for receipt in receipts {
             self.told.told = self.told.told.saturating_add(1);
-            if receipt.origin().conn != self.number {
+            if receipt.origin().conn != self.source.id() {
                 self.told.strange = self.told.strange.saturating_add(1);
             }
         }
@@ -114,16 +108,12 @@ impl Store {
 
     /// What the reader was told in the end, once it has collected again. The tickets that are left
     /// are abandoned.
-    fn end<L: Ledger + Run, M: Ledger + Run, R: Wait>(
-        self,
-        rt: &R,
-        alloc: Global,
-        out: &Counted<L, M>,
-    ) -> Told {
+    fn end<A: Tally<Run = J>, S: Tally, R: Wait>(self, rt: &R, out: &SharedOutput<A, S>) -> Told {
         let mut store = self;
-        store.collect(rt, alloc, out);
+        store.collect(rt, out);
         let Store {
-            number: _,
+            alloc: _,
+            source: _,
             tickets,
             told,
         } = store;
@@ -132,60 +122,70 @@ impl Store {
     }
 }
 
-/// The reader of this number admits its requests, and collects between them.
+/// A reader's seat and source before it admits from there, and what it has then.
+type Asking<L> = (Seat<L>, TestSource<L>);
+
+type Reading<L> = (Seat<L>, Store<L>);
+
+/// A reader admits its requests, and collects between them.
 fn read<L: Ledger + Run, M: Ledger + Run, R: Wait>(
     rt: &R,
     alloc: Global,
     out: &Counted<L, M>,
-    number: u64,
-    seat: Seat<L>,
-) -> (Seat<L>, Store)
-    ensures { result.0.parts ≡ seat.parts }
+    asking: Asking<L>,
+) -> Reading<L>
+    ensures { result.0.parts ≡ asking.0.parts }
 {
-    let mut seat = seat;
-    let mut store = Store::new(alloc, number);
+    let (mut seat, source) = asking;
+    let mut store = Store::new(alloc, source);
     for request in 0..REQUESTS {
-        store.admit(rt, alloc, out, &mut seat, request);
+        store.admit(rt, out, &mut seat);
         if request % BETWEEN == 0 {
-            store.collect(rt, alloc, out);
+            store.collect(rt, out);
         }
     }
     (seat, store)
 }
 
-/// Two readers of these seats, each in a thread of its own, the first of this number.
+/// Two readers, each in a thread of its own.
 fn read_two<L: Ledger + Run + Send + Sync, M: Ledger + Run + Send + Sync, R: Threads + Wait + Sync>(
     rt: &R,
     alloc: Global,
     out: &Counted<L, M>,
-    first: u64,
-    seats: (Seat<L>, Seat<L>),
-) -> ((Seat<L>, Store), (Seat<L>, Store))
-    ensures { (result.0.0.parts ≡ seats.0.parts) × (result.1.0.parts ≡ seats.1.parts) }
+    two: (Asking<L>, Asking<L>),
+) -> (Reading<L>, Reading<L>)
+    ensures { (result.0.0.parts ≡ two.0.0.parts) × (result.1.0.parts ≡ two.1.0.parts) }
 {
-    let (one, other) = seats;
+    let (one, other) = two;
     thread::join(
         rt,
-        move || read(rt, alloc, out, first, one),
-        move || read(rt, alloc, out, first.saturating_add(1), other),
+        move || read(rt, alloc, out, one),
+        move || read(rt, alloc, out, other),
     )
 }
 
-/// Four readers of these seats, each in a thread of its own.
+/// Four readers, each in a thread of its own.
 fn read_four<
     L: Ledger + Run + Send + Sync,
     M: Ledger + Run + Send + Sync,
     R: Threads + Wait + Sync,
->(rt: &R, alloc: Global, out: &Counted<L, M>, seats: Pairs<Seat<L>>) -> Pairs<(Seat<L>, Store)>
-    ensures { (result.0.0.0.parts ≡ seats.0.0.parts) × (result.0.1.0.parts ≡ seats.0.1.parts)
-        × (result.1.0.0.parts ≡ seats.1.0.parts) × (result.1.1.0.parts ≡ seats.1.1.parts) }
+>(rt: &R, alloc: Global, out: &Counted<L, M>, all: Pairs<Asking<L>>) -> Pairs<Reading<L>>
+    ensures { (result.0.0.0.parts ≡ all.0.0.0.parts) × (result.0.1.0.parts ≡ all.0.1.0.parts)
+        × (result.1.0.0.parts ≡ all.1.0.0.parts) × (result.1.1.0.parts ≡ all.1.1.0.parts) }
 {
-    let (two, others) = seats;
+    let (two, others) = all;
     thread::join(
         rt,
-        move || read_two(rt, alloc, out, 0, two),
-        move || read_two(rt, alloc, out, 2, others),
+        move || read_two(rt, alloc, out, two),
+        move || read_two(rt, alloc, out, others),
     )
+}
+
+/// The next four sources.
+fn four_of<J: Run>(sources: &mut Sources<J>) -> Result<Pairs<TestSource<J>>> {
+    let two = (sources.source()?, sources.source()?);
+    let others = (sources.source()?, sources.source()?);
+    Ok((two, others))
 }
 
 /// A worker sends, and with it all that was admitted.
@@ -194,11 +194,12 @@ fn work_off<L: Ledger + Run, M: Ledger + Run, R: Wait>(
     alloc: Global,
     out: &Counted<L, M>,
     seat: Seat<M>,
+    worker: &mut PlacedWorker<L>,
 ) -> Seat<M>
     ensures { result.parts ≡ seat.parts }
 {
     out.flush(rt, 0, FlushKind::All);
-    let (seat, _) = works(rt, out, seat, Post::narrow(alloc, 0), &mut Open);
+    let (seat, _) = works(rt, (alloc, out), seat, worker, &mut Open);
     seat
 }
 
@@ -214,41 +215,47 @@ fn readers_by<
     L: Ledger + Run + Send + Sync,
     M: Ledger + Run + Send + Sync,
     R: Threads + Wait + Sync,
->(rt: &R, alloc: Global, opened: OpenedOutputs, admitting: Blank, working: Blank) -> Result<Readers>
-    requires opened { (opened.book ≡ L.book) × (0 < opened.pages) }
+>(rt: &R, alloc: Global, opened: OpenedRun, admitting: Blank, working: Blank) -> Result<Readers>
+    requires opened { (opened.book ≡ L.book) × (opened.pages ≡ page_count) }
     requires admitting { (admitting.name ≡ L.name) × (admitting.parts ≡ L.parts) × (L.parts ≡ 4) }
     requires working { (working.name ≡ M.name) × (working.parts ≡ M.parts) × (M.parts ≡ 1) }
     ensures { IfOk result (λ all. all.closing.accepted ≡ all.closing.settled + all.closing.left) }
 {
     let (accepted, mut first) = open::<L>(admitting);
-    let (settled, worker) = open::<M>(working);
+    let (settled, work_seat) = open::<M>(working);
     let second = Ledgered::<L>::split(&mut first, 1);
     let third = Ledgered::<L>::split(&mut first, 1);
     let fourth = Ledgered::<L>::split(&mut first, 1);
-    let begun = paged::<L>(alloc, opened, output(10, 100_000))?;
-    let shared = SharedOutput::new(Locked::new(alloc, begun, accepted, settled));
+    let mut begun = begin::<L>(alloc, opened, output(10, 100_000, 1))?;
+    let mut worker = begun.worker()?.placed(alloc);
+    let ((one, two), (three, four)) = four_of(&mut begun.sources)?;
+    let shared = begun.shared(accepted, settled);
     let out = &shared;
-    let (read, worker) = thread::join(
+    let working = &mut worker;
+    let (read, work_seat) = thread::join(
         rt,
-        move || -> Pairs<(Seat<L>, Store)>
+        move || -> Pairs<Reading<L>>
             requires { (first.parts ≡ 1) × (second.parts ≡ 1) × (third.parts ≡ 1)
                 × (fourth.parts ≡ 1) }
             ensures { (result.0.0.0.parts ≡ 1) × (result.0.1.0.parts ≡ 1)
                 × (result.1.0.0.parts ≡ 1) × (result.1.1.0.parts ≡ 1) }
-        { read_four(rt, alloc, out, ((first, second), (third, fourth))) },
+        {
+            let others = ((third, three), (fourth, four));
+            read_four(rt, alloc, out, (((first, one), (second, two)), others))
+        },
         move || -> Seat<M>
-            requires { worker.parts ≡ 1 }
+            requires { work_seat.parts ≡ 1 }
             ensures { result.parts ≡ 1 }
-        { work_off(rt, alloc, out, worker) },
+        { work_off(rt, alloc, out, work_seat, working) },
     );
-    let worker = work_off(rt, alloc, out, worker);
+    let work_seat = work_off(rt, alloc, out, work_seat, &mut worker);
     let (((first, one), (second, two)), ((third, three), (fourth, four))) = read;
     let told = (
-        (one.end(rt, alloc, out), two.end(rt, alloc, out)),
-        (three.end(rt, alloc, out), four.end(rt, alloc, out)),
+        (one.end(rt, out), two.end(rt, out)),
+        (three.end(rt, out), four.end(rt, out)),
     );
     let admit_seats = vec![in alloc; first, second, third, fourth]?;
-    let work_seats = vec![in alloc; worker]?;
+    let work_seats = vec![in alloc; work_seat]?;
     Ok(Readers {
         closing: shared.close(admit_seats, work_seats),
         told,
@@ -260,6 +267,6 @@ fn readers_by<
 pub fn four_readers<R: Threads + Wait + Sync>(rt: &R, alloc: Global) -> Result<Readers>
     ensures { IfOk result (λ all. all.closing.accepted ≡ all.closing.settled + all.closing.left) }
 {
-    let opened = OpenedOutputs::new(1);
+    let opened = OpenedRun::new(usize::MAX);
     readers_by::<Brand, Brand, R>(rt, alloc, opened, Blank::new(4), Blank::new(1))
 }

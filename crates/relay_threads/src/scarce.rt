@@ -3,11 +3,12 @@
 //! refuse the first request for memory, the second, and so on. Each part has a second try, since
 //! memory may be refused where it begins.
 
-ghost use Rattle.std.specs.Prelude.{◌≡◌, ◌+◌, ◌<◌, IfOk};
+ghost use Rattle.std.specs.Prelude.{◌≡◌, ◌+◌, IfOk};
+ghost use Rattle.fwd_run.specs.Pages.{page_count};
 
-use crate::batches::output;
 use crate::day::admit_both;
-use crate::paging::paged;
+use crate::output_plan::output;
+use crate::paging::begin;
 use crate::print_closing;
 use crate::serving::well;
 use crate::trials::{CALM, Trial, Witness};
@@ -15,7 +16,8 @@ use crate::turns::collected;
 use anyhow::Result;
 use fwd_history::Run;
 use fwd_model::FlushKind;
-use fwd_output::{Closing, Ledgered, Locked, OpenedOutputs, SharedOutput, Tally, open};
+use fwd_output::{Closing, Ledgered, Tally, open};
+use fwd_run::OpenedRun;
 use std::alloc::Global;
 use std::env;
 use std::marker::Brand;
@@ -42,11 +44,11 @@ struct Outcome {
 fn alone_by<L: Ledger + Run + Send + Sync, M: Ledger + Run + Send + Sync, R: Threads + Wait + Sync>(
     rt: &R,
     alloc: Global,
-    opened: OpenedOutputs,
+    opened: OpenedRun,
     admitting: Blank,
     working: Blank,
 ) -> Result<Outcome>
-    requires opened { (opened.book ≡ L.book) × (0 < opened.pages) }
+    requires opened { (opened.book ≡ L.book) × (opened.pages ≡ page_count) }
     requires admitting { (admitting.name ≡ L.name) × (admitting.parts ≡ L.parts) × (L.parts ≡ 2) }
     requires working { (working.name ≡ M.name) × (working.parts ≡ M.parts) × (M.parts ≡ 1) }
     ensures { IfOk result (λ outcome.
@@ -56,12 +58,15 @@ fn alone_by<L: Ledger + Run + Send + Sync, M: Ledger + Run + Send + Sync, R: Thr
     let (settled, seat) = open::<M>(working);
     let other = Ledgered::<L>::split(&mut one, 1);
     let witness = Witness::new(alloc)?;
-    let begun = paged::<L>(alloc, opened, output(10, 100_000))?;
-    let out = SharedOutput::new(Locked::new(alloc, begun, accepted, settled));
-    let ((one, tickets), (other, others)) = admit_both(rt, alloc, &out, one, other);
+    let mut begun = begin::<L>(alloc, opened, output(10, 100_000, 1))?;
+    let mut worker = begun.worker()?.placed(alloc);
+    let sources = (begun.sources.source()?, begun.sources.source()?);
+    let out = begun.shared(accepted, settled);
+    let both = admit_both(rt, alloc, &out, (one, sources.0), (other, sources.1));
+    let ((one, tickets), (other, others)) = both;
     out.flush(rt, 0, FlushKind::All);
-    let seat = BUSY.work(rt, alloc, &out, seat, &witness);
-    let seat = BUSY.work(rt, alloc, &out, seat, &witness);
+    let seat = BUSY.work(rt, &out, seat, &mut worker, &witness);
+    let seat = BUSY.work(rt, &out, seat, &mut worker, &witness);
     let (told, _) = collected(rt, alloc, &out, tickets);
     let (also_told, _) = collected(rt, alloc, &out, others);
     let admit_seats = vec![in alloc; one, other]?;
@@ -77,7 +82,7 @@ fn alone<R: Threads + Wait + Sync>(rt: &R, alloc: Global) -> Result<Outcome>
     ensures { IfOk result (λ outcome.
         outcome.closing.accepted ≡ outcome.closing.settled + outcome.closing.left) }
 {
-    let opened = OpenedOutputs::new(1);
+    let opened = OpenedRun::new(usize::MAX);
     alone_by::<Brand, Brand, R>(rt, alloc, opened, Blank::new(2), Blank::new(1))
 }
 

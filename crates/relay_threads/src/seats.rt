@@ -1,20 +1,22 @@
 //! Many seats of a ledger: they are split off in a loop, each thread has one, and they are joined
 //! again in a loop.
 
-ghost use Rattle.std.specs.Prelude.{◌≡◌, ◌+◌, ◌<◌, ◌≤◌, IfOk, vec_len};
+ghost use Rattle.std.specs.Prelude.{◌≡◌, ◌+◌, ◌<◌, IfOk, vec_len};
+ghost use Rattle.fwd_run.specs.Pages.{page_count};
 
-use crate::batches::{login, output, terms};
+use crate::idle_worker::IdleWorker;
 use crate::memory::{Open, Still, Wires};
-use crate::paging::paged;
+use crate::output_plan::output;
+use crate::paging::begin;
+use crate::test_source::TestSource;
 use crate::thread_share::Hand;
-use crate::turns::{Load, Post, abandon_all, admits, works};
-use anyhow::Result;
+use crate::turns::{abandon_all, admits, works};
+use anyhow::{Result, bail};
 use fwd_history::Run;
 use fwd_model::FlushKind;
-use fwd_output::{Closing, Ledgered, Locked, OpenedOutputs, Seat, SharedOutput, Tally, open};
-use fwd_workers::{Gate, Pass, Place, Worker};
-use rand_chacha::ChaCha20Rng;
-use rand_core::SeedableRng;
+use fwd_output::{Closing, Ledgered, Seat, SharedOutput, Tally, open};
+use fwd_run::OpenedRun;
+use fwd_workers::{Gate, Pass, Place};
 use std::alloc::{AllocError, Global};
 use std::marker::Brand;
 use std::sync::Wait;
@@ -26,32 +28,33 @@ use std::thread::Threads;
 /// An output whose counters are these two ledgers.
 type Counted<L, M> = SharedOutput<Ledgered<L>, Ledgered<M>>;
 
-/// Splits seats of one part each off a seat, so many of them.
-fn deal<L: Ledger + Run>(
+/// Splits a seat of one part off a seat for each of these tools.
+fn deal<L: Ledger + Run, T: Drop>(
     alloc: Global,
     all: Seat<L>,
-    count: u16,
-) -> Result<(Seat<L>, Vec<Hand<L>>), AllocError>
-    requires { count < all.parts }
-    ensures { IfOk result (λ p. (p.0.parts + count ≡ all.parts) × (vec_len p.1 ≡ count)) }
+    tools: Vec<T>,
+) -> Result<(Seat<L>, Vec<Hand<L, T>>), AllocError>
+    requires { vec_len tools < all.parts }
+    ensures { IfOk result (λ p. (p.0.parts + vec_len tools ≡ all.parts)
+        × (vec_len p.1 ≡ vec_len tools)) }
 {
-    let mut all = all;
+    let (mut all, mut tools) = (all, tools);
     let mut hands = Vec::new(alloc);
-    for number in 0..count {
+    while let Some(tool) = tools.pop() {
         let seat = Ledgered::<L>::split(&mut all, 1);
-        hands.push(Hand { number, seat })?;
+        hands.push(Hand { tool, seat })?;
     }
     Ok((all, hands))
 }
 
 /// Joins these seats to a seat.
-fn join_all<L: Ledger + Run>(all: Seat<L>, hands: Vec<Hand<L>>) -> Seat<L>
+fn join_all<L: Ledger + Run>(all: Seat<L>, hands: Vec<Hand<L, ()>>) -> Seat<L>
     ensures { result.parts ≡ all.parts + vec_len hands }
 {
     let mut all = all;
     let mut hands = hands;
     while let Some(hand) = hands.pop() {
-        let Hand { number: _, seat } = hand;
+        let Hand { tool: _, seat } = hand;
         all = Ledgered::<L>::join(all, seat);
     }
     all
@@ -62,13 +65,12 @@ fn admit_hand<L: Ledger + Run, M: Ledger + Run, R: Wait>(
     rt: &R,
     alloc: Global,
     out: &Counted<L, M>,
-    hand: Hand<L>,
-) -> Hand<L> {
-    let Hand { number, seat } = hand;
-    let load = Load::new(u64::from(number), 25);
-    let (seat, tickets) = admits(rt, alloc, out, seat, load);
+    hand: Hand<L, TestSource<L>>,
+) -> Hand<L, ()> {
+    let Hand { tool, seat } = hand;
+    let (seat, tickets) = admits(rt, alloc, out, (seat, tool), 25);
     abandon_all(rt, out, tickets);
-    Hand { number, seat }
+    Hand { tool: (), seat }
 }
 
 /// Stops a worker that has no chunk, once all is admitted.
@@ -91,19 +93,15 @@ fn work_hand<L: Ledger + Run, M: Ledger + Run, R: Wait>(
     rt: &R,
     alloc: Global,
     out: &Counted<L, M>,
-    hand: Hand<M>,
+    hand: Hand<M, IdleWorker<L>>,
     admitted: &AtomicU64,
-) -> Hand<M> {
-    let Hand { number, seat } = hand;
-    let Ok(login) = login(alloc) else {
-        return Hand { number, seat };
-    };
-    let rng = ChaCha20Rng::from_seed([0; 32]);
-    let mut worker = Worker::new(alloc, number, login, terms(1), rng);
+) -> Hand<M, ()> {
+    let Hand { tool, seat } = hand;
+    let mut worker = tool.placed(alloc);
     let mut gate = Until { admitted };
     let mut hub = Wires(alloc);
     let (seat, _) = worker.run(rt, out, seat, &mut hub, &mut gate, &mut Still, u64::MAX);
-    Hand { number, seat }
+    Hand { tool: (), seat }
 }
 
 /// Threads admit, a hand each, and then it is told that all is admitted.
@@ -115,9 +113,9 @@ fn admit_all<
     rt: &R,
     alloc: Global,
     out: &Counted<L, M>,
-    hands: Vec<Hand<L>>,
+    hands: Vec<Hand<L, TestSource<L>>>,
     admitted: &AtomicU64,
-) -> Result<Vec<Hand<L>>, AllocError>
+) -> Result<Vec<Hand<L, ()>>, AllocError>
     ensures { IfOk result (λ back. vec_len back ≡ vec_len hands) }
 {
     let back = thread::map_vec(rt, hands, &|hand| admit_hand(rt, alloc, out, hand));
@@ -130,9 +128,9 @@ fn work_all<L: Ledger + Run + Send + Sync, M: Ledger + Run + Send + Sync, R: Thr
     rt: &R,
     alloc: Global,
     out: &Counted<L, M>,
-    hands: Vec<Hand<M>>,
+    hands: Vec<Hand<M, IdleWorker<L>>>,
     admitted: &AtomicU64,
-) -> Result<Vec<Hand<M>>, AllocError>
+) -> Result<Vec<Hand<M, ()>>, AllocError>
     ensures { IfOk result (λ back. vec_len back ≡ vec_len hands) }
 {
     thread::map_vec(rt, hands, &|hand| work_hand(rt, alloc, out, hand, admitted))
@@ -143,11 +141,11 @@ fn run_both<L: Ledger + Run + Send + Sync, M: Ledger + Run + Send + Sync, R: Thr
     rt: &R,
     alloc: Global,
     out: &Counted<L, M>,
-    admitting: Vec<Hand<L>>,
-    working: Vec<Hand<M>>,
+    admitting: Vec<Hand<L, TestSource<L>>>,
+    working: Vec<Hand<M, IdleWorker<L>>>,
 ) -> (
-    Result<Vec<Hand<L>>, AllocError>,
-    Result<Vec<Hand<M>>, AllocError>,
+    Result<Vec<Hand<L, ()>>, AllocError>,
+    Result<Vec<Hand<M, ()>>, AllocError>,
 )
     ensures admitted { IfOk result.0 (λ back. vec_len back ≡ vec_len admitting) }
     ensures worked { IfOk result.1 (λ back. vec_len back ≡ vec_len working) }
@@ -167,10 +165,11 @@ fn admit_more<L: Ledger + Run, M: Ledger + Run, R: Wait>(
     alloc: Global,
     out: &Counted<L, M>,
     seat: Seat<L>,
+    source: TestSource<L>,
 ) -> Seat<L>
     ensures { result.parts ≡ seat.parts }
 {
-    let (seat, tickets) = admits(rt, alloc, out, seat, Load::new(100, 3));
+    let (seat, tickets) = admits(rt, alloc, out, (seat, source), 3);
     abandon_all(rt, out, tickets);
     seat
 }
@@ -181,11 +180,13 @@ fn work_off<L: Ledger + Run, M: Ledger + Run, R: Wait>(
     alloc: Global,
     out: &Counted<L, M>,
     seat: Seat<M>,
+    worker: IdleWorker<L>,
 ) -> Seat<M>
     ensures { result.parts ≡ seat.parts }
 {
     out.flush(rt, 0, FlushKind::All);
-    let (seat, _) = works(rt, out, seat, Post::narrow(alloc, 0), &mut Open);
+    let mut worker = worker.placed(alloc);
+    let (seat, _) = works(rt, (alloc, out), seat, &mut worker, &mut Open);
     seat
 }
 
@@ -200,11 +201,11 @@ pub struct Sums {
 fn sums_by<L: Ledger + Run + Send + Sync, M: Ledger + Run + Send + Sync, R: Threads + Wait + Sync>(
     rt: &R,
     alloc: Global,
-    opened: OpenedOutputs,
+    opened: OpenedRun,
     admitting: Blank,
     working: Blank,
 ) -> Result<Sums>
-    requires opened { (opened.book ≡ L.book) × (0 < opened.pages) }
+    requires opened { (opened.book ≡ L.book) × (opened.pages ≡ page_count) }
     requires admitting { (admitting.name ≡ L.name) × (admitting.parts ≡ L.parts) × (L.parts ≡ 9) }
     requires working { (working.name ≡ M.name) × (working.parts ≡ M.parts) × (M.parts ≡ 5) }
     ensures { IfOk result (λ sums.
@@ -212,13 +213,20 @@ fn sums_by<L: Ledger + Run + Send + Sync, M: Ledger + Run + Send + Sync, R: Thre
 {
     let (accepted, admit_seat) = open::<L>(admitting);
     let (settled, work_seat) = open::<M>(working);
-    let (admit_seat, admit_hands) = deal(alloc, admit_seat, 8)?;
-    let (work_seat, work_hands) = deal(alloc, work_seat, 4)?;
-    let begun = paged::<L>(alloc, opened, output(10, 100_000))?;
-    let out = SharedOutput::new(Locked::new(alloc, begun, accepted, settled));
+    let mut begun = begin::<L>(alloc, opened, output(10, 100_000, 5))?;
+    let last = begun.worker()?;
+    let workers = begun.all_workers();
+    if workers.len() != 4 {
+        bail!("there are no four workers beside it");
+    }
+    let (admit_seat, admit_hands) = deal(alloc, admit_seat, begun.sources.take(8)?)?;
+    let (work_seat, work_hands) = deal(alloc, work_seat, workers)?;
+    let more = begun.sources.source()?;
+    let out = begun.shared(accepted, settled);
     let (admitted, worked) = run_both(rt, alloc, &out, admit_hands, work_hands);
-    let work_seat = work_off(rt, alloc, &out, join_all(work_seat, worked?));
-    let admit_seat = admit_more(rt, alloc, &out, join_all(admit_seat, admitted?));
+    let work_seat = work_off(rt, alloc, &out, join_all(work_seat, worked?), last);
+    let admit_seat = join_all(admit_seat, admitted?);
+    let admit_seat = admit_more(rt, alloc, &out, admit_seat, more);
     let seats = (admit_seat.count(), work_seat.count());
     let admit_seats = vec![in alloc; admit_seat]?;
     let work_seats = vec![in alloc; work_seat]?;
@@ -232,6 +240,6 @@ pub fn eight_and_four<R: Threads + Wait + Sync>(rt: &R, alloc: Global) -> Result
     ensures { IfOk result (λ sums.
         sums.closing.accepted ≡ sums.closing.settled + sums.closing.left) }
 {
-    let opened = OpenedOutputs::new(1);
+    let opened = OpenedRun::new(usize::MAX);
     sums_by::<Brand, Brand, R>(rt, alloc, opened, Blank::new(9), Blank::new(5))
 }

@@ -1,20 +1,25 @@
 //! Turns of a session over a link that holds an acknowledgement before the frame's last byte.
 
 ghost use Rattle.std.specs.Prelude.{◌≡◌, ◌<◌, false, IfOk};
+ghost use Rattle.fwd_run.specs.Pages.{page_count};
 ghost use Rattle.fwd_session.specs.Live.{live_room};
 
-use crate::batches::{ACK, MESSAGE, batch, drop_chunk, drop_session, login, output, terms};
+use crate::batches::{ACK, MESSAGE, batch, drop_chunk, drop_session, limits, login, terms};
 use crate::faulty::{Faulty, Got, Wrong};
 use crate::memory::Wire;
+use crate::output_plan::output;
+use crate::paging::begin;
 use anyhow::{Result, bail};
 use fwd_base::Bytes;
-use fwd_handshake::Login;
+use fwd_history::Run;
 use fwd_model::{FlushKind, Origin, OwnedSalt};
 use fwd_output::OutputState;
+use fwd_run::{OpenedRun, WorkerPage};
 use fwd_session::{LoadFailed, Session};
 use fwd_workers::{Served, serve_gathered, serve_turn};
 use std::alloc::Global;
-use std::sync::{Arc, Wait};
+use std::marker::Brand;
+use std::sync::Wait;
 
 /// The frame of a Message `["a", 1, {}]`, under the name of the first chunk.
 const FRAME: &[u8] =
@@ -53,11 +58,18 @@ fn admit_one(alloc: Global, state: &mut OutputState) -> Result<()> {
 
 /// An output with one chunk, which is closed.
 fn closed_output(alloc: Global) -> Result<OutputState> {
-    let setup = output(1000, 100_000);
-    let mut state = OutputState::new(alloc, setup.limits, setup.run, setup.output, setup.standby)?;
+    let mut state = OutputState::new(alloc, limits(1000, 100_000), [0; 6], 0, &[false])?;
     admit_one(alloc, &mut state)?;
     state.flush(0, FlushKind::All);
     Ok(state)
+}
+
+/// A worker's page in a run that begins.
+fn page_of<J: Run>(alloc: Global, opened: OpenedRun) -> Result<WorkerPage<J>>
+    requires { (opened.book ≡ J.book) × (opened.pages ≡ page_count) }
+{
+    let mut begun = begin::<J>(alloc, opened, output(1000, 100_000, 1))?;
+    Ok(begun.worker()?.into_page())
 }
 
 /// A session that is loaded with the output's chunk, if there is memory for it.
@@ -79,20 +91,21 @@ enum Writing {
 }
 
 /// How many turns it takes until the server has acknowledged the frame.
-fn turns_over<R: Wait>(
+fn turns_over<J: Run, R: Wait>(
     rt: &R,
-    alloc: Global,
+    page: &mut WorkerPage<J>,
     session: &mut Session,
     link: &mut Wire,
     writing: Writing,
 ) -> Result<u32> {
+    let alloc = link.alloc();
     for turn in 1..=MOST_TURNS {
         if session.is_down() {
             bail!("down");
         }
         let served = match writing {
-            Writing::Pieces => serve_turn(rt, alloc, link, session),
-            Writing::Gathered => serve_gathered(rt, alloc, link, session, &mut [0; ROOM]),
+            Writing::Pieces => serve_turn(rt, alloc, link, session, page),
+            Writing::Gathered => serve_gathered(rt, alloc, link, session, page, &mut [0; ROOM]),
         };
         if matches!(served, Served::Acked) {
             return Ok(turn);
@@ -102,14 +115,28 @@ fn turns_over<R: Wait>(
 }
 
 /// The same over a link that takes at most so many bytes at once, and whether it took just the
-/// frame.
-fn sent<R: Wait>(rt: &R, alloc: Global, most: usize, writing: Writing) -> Result<(u32, bool)> {
+/// frame, in a run that this history is of.
+fn sent_by<J: Run, R: Wait>(
+    rt: &R,
+    alloc: Global,
+    opened: OpenedRun,
+    most: usize,
+    writing: Writing,
+) -> Result<(u32, bool)>
+    requires { (opened.book ≡ J.book) × (opened.pages ≡ page_count) }
+{
+    let mut page = page_of::<J>(alloc, opened)?;
     let mut state = closed_output(alloc)?;
     let mut session = loaded_session(alloc, &mut state)?;
     let mut link = Wire::new(alloc, most);
-    let turns = turns_over(rt, alloc, &mut session, &mut link, writing);
+    let turns = turns_over(rt, &mut page, &mut session, &mut link, writing);
     drop_session(alloc, session);
     Ok((turns?, link.has_taken(FRAME)))
+}
+
+/// The same.
+fn sent<R: Wait>(rt: &R, alloc: Global, most: usize, writing: Writing) -> Result<(u32, bool)> {
+    sent_by::<Brand, R>(rt, alloc, OpenedRun::new(usize::MAX), most, writing)
 }
 
 /// How many turns the frame of one Message takes over a link that takes at most so many bytes at
@@ -122,9 +149,10 @@ pub fn turns<R: Wait>(rt: &R, alloc: Global, most: usize) -> Result<(u32, u32, b
 
 /// The first answer of turns by pieces that is not quiet. Each has to be `Failed` just where its
 /// own calls of the link failed.
-fn turns_until<R: Wait>(
+fn turns_until<J: Run, R: Wait>(
     rt: &R,
     alloc: Global,
+    page: &mut WorkerPage<J>,
     link: &mut Faulty<'_>,
     session: &mut Session,
 ) -> Result<Served> {
@@ -133,7 +161,7 @@ fn turns_until<R: Wait>(
             bail!("down");
         }
         let before = link.failed();
-        let served = serve_turn(rt, alloc, link, session);
+        let served = serve_turn(rt, alloc, link, session, page);
         if matches!(served, Served::Failed(_)) != (link.failed() > before) {
             bail!("failed, and the link did not");
         }
@@ -144,15 +172,28 @@ fn turns_until<R: Wait>(
     bail!("quiet")
 }
 
-/// The same with a session that is loaded with a Message's chunk.
-fn turns_over_faulty<R: Wait>(rt: &R, alloc: Global, wrong: Option<Wrong>) -> Result<Served> {
+/// The same with a session that is loaded with a Message's chunk, in a run that this history is of.
+fn turns_over_faulty_by<J: Run, R: Wait>(
+    rt: &R,
+    alloc: Global,
+    opened: OpenedRun,
+    wrong: Option<Wrong>,
+) -> Result<Served>
+    requires { (opened.book ≡ J.book) × (opened.pages ≡ page_count) }
+{
+    let mut page = page_of::<J>(alloc, opened)?;
     let mut state = closed_output(alloc)?;
     let mut session = loaded_session(alloc, &mut state)?;
     let got = Got::new();
     let mut link = Faulty::new(alloc, wrong, &got);
-    let served = turns_until(rt, alloc, &mut link, &mut session);
+    let served = turns_until(rt, alloc, &mut page, &mut link, &mut session);
     drop_session(alloc, session);
     served
+}
+
+/// The same.
+fn turns_over_faulty<R: Wait>(rt: &R, alloc: Global, wrong: Option<Wrong>) -> Result<Served> {
+    turns_over_faulty_by::<Brand, R>(rt, alloc, OpenedRun::new(usize::MAX), wrong)
 }
 
 /// What turns by pieces come to over a link that fails at its call of this number.

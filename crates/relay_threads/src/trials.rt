@@ -1,21 +1,21 @@
 //! Trials of one worker: its links fail, its servers lie, or its gate stops it.
 
-ghost use Rattle.std.specs.Prelude.{◌≡◌, ◌+◌, ◌<◌, ◌≤◌, IfOk};
+ghost use Rattle.std.specs.Prelude.{◌≡◌, ◌+◌, IfOk};
+ghost use Rattle.fwd_run.specs.Pages.{page_count};
 
-use crate::batches::{login, output, terms};
 use crate::faulty::{FaultyHub, Got, Wrong};
-use crate::paging::paged;
+use crate::output_plan::{OutputPlan, output};
+use crate::paging::begin;
 use crate::print_closing;
 use crate::record::Record;
-use crate::turns::{Load, abandon_all, admits};
+use crate::turns::{abandon_all, admits};
 use crate::watched::{Ticking, news_text, place_name};
 use anyhow::Result;
 use fwd_history::Run;
 use fwd_model::FlushKind;
-use fwd_output::{Closing, Ledgered, Locked, OpenedOutputs, SharedOutput, Tally, open};
-use fwd_workers::{Gate, LinkFault, LossReason, Pass, Place, Worker, WorkerEvent};
-use rand_chacha::ChaCha20Rng;
-use rand_core::SeedableRng;
+use fwd_output::{Closing, Ledgered, SharedOutput, Tally, open};
+use fwd_run::OpenedRun;
+use fwd_workers::{Gate, LinkFault, LossReason, Pass, Place, PlacedWorker, WorkerEvent};
 use std::alloc::{AllocError, Global};
 use std::marker::Brand;
 use std::sync::Wait;
@@ -62,6 +62,7 @@ pub const CALM: Trial = Trial {
 /// What is seen of a worker: what it told, and what its servers got.
 #[derive(Drop)]
 pub struct Witness {
+    alloc: Global,
     record: Record,
     got: Got,
 }
@@ -70,6 +71,7 @@ impl Witness {
     /// Nothing. The only error is out of memory.
     pub fn new(alloc: Global) -> Result<Witness, AllocError> {
         Ok(Witness {
+            alloc,
             record: Record::new(alloc)?,
             got: Got::new(),
         })
@@ -126,14 +128,15 @@ impl Trial {
     pub fn work<A: Tally, S: Tally, R: Wait>(
         self,
         rt: &R,
-        alloc: Global,
         out: &SharedOutput<A, S>,
         seat: S::Seat,
+        worker: &mut PlacedWorker<A::Run>,
         witness: &Witness,
     ) -> S::Seat
         ensures { S.parts result ≡ S.parts seat }
     {
-        let (Ok(login), Ok(record)) = (login(alloc), witness.record.share()) else {
+        let alloc = witness.alloc;
+        let Ok(record) = witness.record.share() else {
             return seat;
         };
         let mut hub = FaultyHub {
@@ -150,8 +153,6 @@ impl Trial {
             owed: self.chunks,
         };
         let mut clock = Ticking::new(TICK);
-        let rng = ChaCha20Rng::from_seed([0; 32]);
-        let mut worker = Worker::new(alloc, 0, login, terms(self.window), rng);
         let (seat, ended) = worker.run(rt, out, seat, &mut hub, &mut gate, &mut clock, TURNS);
         if !ended.is_stopped() {
             witness.record.note(rt, ", turns spent");
@@ -171,11 +172,11 @@ struct Tried {
 fn tried_by<L: Ledger + Run, M: Ledger + Run, R: Wait>(
     rt: &R,
     alloc: Global,
-    opened: OpenedOutputs,
+    opened: OpenedRun,
     ledgers: (Blank, Blank),
     trial: Trial,
 ) -> Result<Tried>
-    requires opened { (opened.book ≡ L.book) × (0 < opened.pages) }
+    requires opened { (opened.book ≡ L.book) × (opened.pages ≡ page_count) }
     requires admitting { (ledgers.0.name ≡ L.name) × (ledgers.0.parts ≡ L.parts)
         × (L.parts ≡ 1) }
     requires working { (ledgers.1.name ≡ M.name) × (ledgers.1.parts ≡ M.parts) × (M.parts ≡ 1) }
@@ -186,13 +187,18 @@ fn tried_by<L: Ledger + Run, M: Ledger + Run, R: Wait>(
     let (accepted, admit_seat) = open::<L>(admitting);
     let (settled, work_seat) = open::<M>(working);
     let witness = Witness::new(alloc)?;
-    let begun = paged::<L>(alloc, opened, output(3, 100_000))?;
-    let out = SharedOutput::new(Locked::new(alloc, begun, accepted, settled));
-    let load = Load::new(1, trial.chunks);
-    let (admit_seat, tickets) = admits(rt, alloc, &out, admit_seat, load);
+    let plan = OutputPlan {
+        window: trial.window,
+        ..output(3, 100_000, 1)
+    };
+    let mut begun = begin::<L>(alloc, opened, plan)?;
+    let mut worker = begun.worker()?.placed(alloc);
+    let source = begun.sources.source()?;
+    let out = begun.shared(accepted, settled);
+    let (admit_seat, tickets) = admits(rt, alloc, &out, (admit_seat, source), trial.chunks);
     abandon_all(rt, &out, tickets);
     out.flush(rt, 0, FlushKind::All);
-    let work_seat = trial.work(rt, alloc, &out, work_seat, &witness);
+    let work_seat = trial.work(rt, &out, work_seat, &mut worker, &witness);
     let admit_seats = vec![in alloc; admit_seat]?;
     let work_seats = vec![in alloc; work_seat]?;
     Ok(Tried {
@@ -207,7 +213,7 @@ fn tried_out<R: Wait>(rt: &R, alloc: Global, trial: Trial) -> Result<Tried>
         tried.closing.accepted ≡ tried.closing.settled + tried.closing.left) }
 {
     let ledgers = (Blank::new(1), Blank::new(1));
-    tried_by::<Brand, Brand, R>(rt, alloc, OpenedOutputs::new(1), ledgers, trial)
+    tried_by::<Brand, Brand, R>(rt, alloc, OpenedRun::new(usize::MAX), ledgers, trial)
 }
 
 /// Tells a trial by what its worker told, and by what the output came to.

@@ -1,12 +1,14 @@
 //! What an output came to.
 
-ghost use Rattle.std.specs.Prelude.{◌≡◌, ◌+◌};
+ghost use Rattle.std.specs.Prelude.{◌≡◌, ◌+◌, Some};
 ghost use Rattle.fwd_chunks.specs.Live.{live_counts};
+ghost use Rattle.fwd_run.specs.Runs.{output_at};
 ghost use Rattle.fwd_output.specs.Seats.{parts_of, counts_of};
 
 use super::Locked;
-use crate::tally::{Ledgered, Seat};
+use crate::tally::{Ledgered, Seat, Tally};
 use fwd_history::Run;
+use fwd_run::EndedPage;
 use std::sync::ledger::Ledger;
 
 /// What an output came to, in entries.
@@ -48,5 +50,15 @@ impl<L: Ledger + Run, M: Ledger + Run> Locked<Ledgered<L>, Ledgered<M>> {
             settled: counts.settled,
             left: counts.held,
         }
+    }
+}
+
+impl<A: Tally + Drop, S: Tally + Drop> Locked<A, S> {
+    /// Nothing happens to the output any more: its page, by which it is what it is.
+    pub(crate) fn ends(self) -> EndedPage<A::Run>
+        ensures { output_at result.past result.output ≡ Some self.output }
+    {
+        let Locked { state, .. } = self;
+        state.ends()
     }
 }

@@ -14,6 +14,7 @@ ghost use Rattle.std.specs.Prelude.{
   OnErr,
 };
 ghost use Rattle.fwd_chunks.specs.Live.{live_given_for, live_looks, times_lost};
+ghost use Rattle.fwd_output.specs.Paged.{MayTake, Takes, taken_of};
 ghost use Rattle.fwd_output.specs.Looks.{
   HasFound,
   IsSeen,
@@ -31,6 +32,7 @@ use crate::server_set::ServerSet;
 use crate::server_view::{ChunkSearch, ChunkUse, Look, ServerView};
 use crate::tally::Tally;
 use fwd_chunks::{FlushKind, Wanted};
+use fwd_run::WorkerPage;
 use std::alloc::{AllocError, Global};
 
 impl<A: Tally, S: Tally> Locked<A, S> {
@@ -43,9 +45,12 @@ impl<A: Tally, S: Tally> Locked<A, S> {
         &mut self,
         alloc: Global,
         seat: &mut S::Seat,
+        worker: &mut WorkerPage<A::Run>,
         search: ChunkSearch,
         now: u64,
     ) -> Look
+        requires may { MayTake worker.old self.old.output.book.setting.output }
+        requires own { search.worker ≡ worker.old.worker }
         ensures seen { IsSeen self.old search.worker now result.view }
         ensures leaves { may_look result.view search.chunk_use ≡ false
             → (result.found ≡ Ok Found.Nothing) × (self.new ≡ locked_looks self.old now) }
@@ -55,8 +60,12 @@ impl<A: Tally, S: Tally> Locked<A, S> {
             result.view search now self.new) }
         ensures err { OnErr result.found (self.new
             ≡ locked_flushes (locked_looks self.old now) (now - search.leaves_open)) }
+        ensures takes { IfOk result.found (λ found.
+            Takes worker.old (taken_of found) worker.new) }
+        ensures stays { OnErr result.found (worker.new ≡ worker.old) }
         ensures same { seat.new ≡ seat.old }
     {
+        let _ = seat;
         let view = self.server_view(search.worker, now);
         if !view.may_look(search.chunk_use) {
             return Look {
@@ -65,7 +74,7 @@ impl<A: Tally, S: Tally> Locked<A, S> {
             };
         }
         self.flush(now.saturating_sub(search.leaves_open), FlushKind::Due);
-        let found = self.find(alloc, seat, search, view, now);
+        let found = self.find(alloc, worker, search, view, now);
         Look { view, found }
     }
 
@@ -117,14 +126,17 @@ impl<A: Tally, S: Tally> Locked<A, S> {
     fn find(
         &mut self,
         alloc: Global,
-        seat: &mut S::Seat,
+        worker: &mut WorkerPage<A::Run>,
         search: ChunkSearch,
         view: ServerView,
         now: u64,
     ) -> Result<Found, AllocError>
+        requires may { MayTake worker.old self.old.output.book.setting.output }
+        requires own { search.worker ≡ worker.old.worker }
         ensures found { IfOk result (λ found. HasFound found self.old view search now self.new) }
         ensures err { OnErr result (self.new ≡ self.old) }
-        ensures same { seat.new ≡ seat.old }
+        ensures takes { IfOk result (λ found. Takes worker.old (taken_of found) worker.new) }
+        ensures stays { OnErr result (worker.new ≡ worker.old) }
     {
         let wanted = self.wanted_for(view, search.chunk_use, now);
         let Some(offer) = self.offer(wanted, search.worker, now) else {
@@ -133,7 +145,7 @@ impl<A: Tally, S: Tally> Locked<A, S> {
         if !view.takes(search.chunk_use, &offer) {
             return Ok(Found::Passed(offer));
         }
-        match self.state.take_wanted(alloc, search.worker, wanted, now)? {
+        match self.state.take_wanted(alloc, worker, wanted, now)? {
             Some(chunk) => Ok(Found::Took(PickedChunk { chunk, offer })),
             None => unreachable!(),
         }

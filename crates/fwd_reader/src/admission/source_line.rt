@@ -34,7 +34,7 @@ pub(crate) struct Answer {
 }
 
 /// Whether a source stands in line for room at the output that its first request goes to.
-fn is_in_line(source: &SourcePeer) -> bool {
+fn is_in_line<J: Run>(source: &SourcePeer<J>) -> bool {
     match source.waiting_place() {
         Some(place) => place.is_in_line,
         None => false,
@@ -79,7 +79,7 @@ impl SourceLine {
         rt: &R,
         output: &Output<J>,
         number: u16,
-        source: &mut SourcePeer,
+        source: &mut SourcePeer<J>,
     ) -> Answer
         ensures within { result.enters ≡ true
             → may_owe self.old.owed.limit self.old.owed.owed source.old.owed ≡ true }
@@ -109,7 +109,12 @@ impl SourceLine {
     /// What becomes of a source's first request that waits. It enters where its source may be owed
     /// more; and, where sources wait until an output has room, where it has its turn, and room.
     /// Where it has not, its source stands in line from now on.
-    fn judge<J: Run, R: Wait>(&mut self, rt: &R, output: &Output<J>, source: &SourcePeer) -> Verdict
+    fn judge<J: Run, R: Wait>(
+        &mut self,
+        rt: &R,
+        output: &Output<J>,
+        source: &SourcePeer<J>,
+    ) -> Verdict
         ensures in_turn { result ≡ Verdict.Enters → output.now.waits_when_full ≡ true
             → EntersInTurn self.old.ids.items source.now.id self.new.ids.items }
         ensures within { result ≡ Verdict.Enters

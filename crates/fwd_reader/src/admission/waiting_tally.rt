@@ -2,6 +2,7 @@
 
 ghost use Rattle.std.specs.Prelude.{◌≡◌};
 
+use fwd_history::Run;
 use fwd_peers::{SourcePeer, WaitingPlace};
 use std::sync::atomic::{AtomicU64, Ordering};
 
@@ -24,7 +25,7 @@ impl WaitingTally {
 
     /// A source's first request waits at the output of this number, in line for room or not. It is
     /// counted once, however often it is found to wait.
-    pub fn add(&self, source: &mut SourcePeer, output: u16, is_in_line: bool)
+    pub fn add<J: Run>(&self, source: &mut SourcePeer<J>, output: u16, is_in_line: bool)
         ensures { source.new ≡ source.old }
     {
         let bytes = match source.waiting_place() {
@@ -39,7 +40,7 @@ impl WaitingTally {
     }
 
     /// A source's first request waits no more: it was taken, or the source goes.
-    pub fn remove(&self, source: &mut SourcePeer)
+    pub fn remove<J: Run>(&self, source: &mut SourcePeer<J>)
         ensures { source.new ≡ source.old }
     {
         if let Some(place) = source.waiting_place() {

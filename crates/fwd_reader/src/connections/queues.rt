@@ -24,6 +24,7 @@ ghost use Rattle.fwd_reader.specs.Queues.{
 };
 
 use super::{Connections, OpenConnection};
+use fwd_history::Run;
 use std::mem;
 
 /// A connection that is ready to be read, or may be written.
@@ -45,7 +46,7 @@ fn waits_since(before: Option<u64>, now: u64) -> u64
     }
 }
 
-impl OpenConnection {
+impl<J: Run> OpenConnection<J> {
     /// Requests of it wait from a moment (milliseconds) on, where none did, and it stands among the
     /// connections of which some do. Whether one more takes a place by that though it waits.
     fn wait_from(&mut self, now: u64) -> bool
@@ -59,7 +60,7 @@ impl OpenConnection {
     }
 }
 
-impl Connections {
+impl<J: Run> Connections<J> {
     /// A connection may be read; to its end, where the system told that it closed or failed.
     #[tactic(auto, using(crate::proofs::Standing::all_stay, crate::proofs::Standing::flags_change, crate::proofs::Standing::changed, crate::proofs::Standing::none_changed))]
     pub fn note_ready(&mut self, key: usize, is_closing: bool)

@@ -46,7 +46,7 @@ impl<'a, J: Run> Router<'a, J> {
     pub fn collect<R: Wait, W: Observer>(
         &mut self,
         rt: &R,
-        connections: &mut Connections,
+        connections: &mut Connections<J>,
         observer: &mut W,
     ) -> bool
         ensures promised { TellsPromised self.old.routes self.new.reached
@@ -88,7 +88,7 @@ impl<'a, J: Run> Router<'a, J> {
         &mut self,
         rt: &R,
         number: u16,
-        connections: &mut Connections,
+        connections: &mut Connections<J>,
         observer: &mut W,
         answered: &mut u64,
     ) -> bool
@@ -125,7 +125,7 @@ impl<'a, J: Run> Router<'a, J> {
         &mut self,
         rt: &R,
         number: u16,
-        connections: &mut Connections,
+        connections: &mut Connections<J>,
         answered: &mut u64,
     ) -> Result<bool, AllocError>
         ensures promised { TellsPromised self.old.routes self.new.reached
@@ -166,7 +166,7 @@ impl<'a, J: Run> Router<'a, J> {
     pub fn collect_all<R: Wait, W: Observer>(
         &mut self,
         rt: &R,
-        connections: &mut Connections,
+        connections: &mut Connections<J>,
         observer: &mut W,
     )
         ensures promised { TellsPromised self.old.routes self.new.reached

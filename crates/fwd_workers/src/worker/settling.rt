@@ -1,11 +1,12 @@
 //! What a worker does with a session that has chunks: it serves it, settles what was acknowledged,
 //! adds chunks, and loses what its end left over.
 
-ghost use Rattle.std.specs.Prelude.{◌≡◌, ◌≤◌, ◌+◌, [], None, true, false, length, nat_lt};
+ghost use Rattle.std.specs.Prelude.{◌≡◌, ◌≤◌, ◌+◌, [], None, Some, true, false, length, nat_lt};
 ghost use Rattle.fwd_session.specs.Live.{live_acked};
 ghost use Rattle.fwd_workers.specs.Choosing.{is_added};
 ghost use Rattle.fwd_workers.specs.Doubting.{doubts_lose};
 ghost use Rattle.fwd_workers.specs.Endings.{news_of};
+ghost use Rattle.fwd_workers.specs.Placed.{Becomes, held, with};
 ghost use Rattle.fwd_workers.specs.Working.{HasAdded, HasGoneOn, HasLost, HasSettled, next_entries};
 
 use super::Worker;
@@ -17,19 +18,23 @@ use crate::upstream_end::{lose_upstream, settle_upstream};
 use crate::upstream_turn::{serve, to_end};
 use fwd_chunks::Carried;
 use fwd_environment::Link;
+use fwd_history::Run;
 use fwd_output::{ChunkUse, Found, Tally};
 use std::sync::Wait;
 
-impl Worker {
+impl<J: Run> Worker<J> {
     /// Settles the chunk that was accepted first, and no other; until one is, the session is
     /// served, and a chunk more is taken where one may be added. Where the session ends its chunks
     /// are lost, and the worker seeks a server while they wait.
-    pub(super) fn settle<A: Tally, S: Tally, L: Link, R: Wait>(
+    pub(super) fn settle<A: Tally<Run = J>, S: Tally, L: Link, R: Wait>(
         &mut self,
         context: &TurnContext<'_, A, S, R>,
         seat: &mut S::Seat,
         upstream: Upstream<L>,
     ) -> WorkerState<L>
+        requires { self.old.page.has ≡ Some (with None (Some upstream.session)) }
+        ensures has { Becomes self.old.page self.new.page (held result) }
+        ensures terms { self.new.terms ≡ self.old.terms }
         ensures same { upstream.session.accepted ≡ [] → seat.new ≡ seat.old }
         ensures settled { HasSettled result upstream.session }
         ensures lost { upstream.ending ≡ None → HasLost result self.new.event upstream.session
@@ -42,7 +47,7 @@ impl Worker {
         let mut upstream = upstream;
         if upstream.session.is_acked() {
             self.doubts.settle();
-            self.event = settle_upstream(context, seat, &mut upstream);
+            self.event = settle_upstream(context, seat, &mut self.page, &mut upstream);
             return WorkerState::Settled(upstream);
         }
         let adds = upstream.may_add();
@@ -50,6 +55,7 @@ impl Worker {
             context.rt,
             self.alloc,
             &mut self.room,
+            &mut self.page,
             upstream,
             context.now,
         );
@@ -65,7 +71,7 @@ impl Worker {
 
     /// A session ends with chunks that are not acknowledged: they are lost, and the one that may
     /// have been taken for it goes back. The worker seeks a server while they wait.
-    pub(super) fn lose<A: Tally, S: Tally, L: Link, R: Wait>(
+    pub(super) fn lose<A: Tally<Run = J>, S: Tally, L: Link, R: Wait>(
         &mut self,
         context: &TurnContext<'_, A, S, R>,
         seat: &mut S::Seat,
@@ -73,7 +79,10 @@ impl Worker {
         why: EndReason,
         taken: Option<Carried>,
     ) -> WorkerState<L>
-        requires { upstream.session.accepted ≡ [] }
+        requires settled { upstream.session.accepted ≡ [] }
+        requires has { self.old.page.has ≡ Some (with taken (Some upstream.session)) }
+        ensures has { Becomes self.old.page self.new.page (held result) }
+        ensures terms { self.new.terms ≡ self.old.terms }
         ensures same { seat.new ≡ seat.old }
         ensures told { self.new.event
             ≡ news_of why upstream.session.setup.server (length upstream.session.carried) }
@@ -83,7 +92,7 @@ impl Worker {
         ensures seeks { result ≡ WorkerState.Seeking }
     {
         let server = upstream.session.server();
-        let chunks = lose_upstream(context, seat, upstream, taken);
+        let chunks = lose_upstream(context, seat, &mut self.page, upstream, taken);
         let told = why.event(server, chunks);
         self.event = told;
         self.doubts.lose(server, why);
@@ -94,7 +103,7 @@ impl Worker {
     /// the one to try and known to work: else the worker waits until its chunks are acknowledged.
     /// One that was lost before stays free until they are, and goes alone, so that what its server
     /// does about it is done to no other. What another worker claims is left to it.
-    fn add<A: Tally, S: Tally, L: Link, R: Wait>(
+    fn add<A: Tally<Run = J>, S: Tally, L: Link, R: Wait>(
         &mut self,
         context: &TurnContext<'_, A, S, R>,
         seat: &mut S::Seat,
@@ -102,6 +111,9 @@ impl Worker {
     ) -> WorkerState<L>
         requires settled { upstream.session.accepted ≡ [] }
         requires on { upstream.ending ≡ None }
+        requires has { self.old.page.has ≡ Some (with None (Some upstream.session)) }
+        ensures has { Becomes self.old.page self.new.page (held result) }
+        ensures terms { self.new.terms ≡ self.old.terms }
         ensures same { seat.new ≡ seat.old }
         ensures added { HasAdded result upstream.session }
         ensures well { is_added result ≡ true → (self.old.doubts.alone ≡ false)
@@ -126,12 +138,15 @@ impl Worker {
 
     /// A chunk was settled: the worker goes on with those that the session still has. Without any
     /// the session stands, where it takes another one.
-    pub(super) fn go_on<A: Tally, S: Tally, L: Link, R: Wait>(
+    pub(super) fn go_on<A: Tally<Run = J>, S: Tally, L: Link, R: Wait>(
         &mut self,
         context: &TurnContext<'_, A, S, R>,
         seat: &mut S::Seat,
         upstream: Upstream<L>,
     ) -> WorkerState<L>
+        requires { self.old.page.has ≡ Some (with None (Some upstream.session)) }
+        ensures has { Becomes self.old.page self.new.page (held result) }
+        ensures terms { self.new.terms ≡ self.old.terms }
         ensures same { seat.new ≡ seat.old }
         ensures goes { HasGoneOn result self.new.event upstream.session upstream.ending }
     {

@@ -1,12 +1,15 @@
 //! How a worker takes a chunk for the session that it has, and loads it there.
 
-ghost use Rattle.std.specs.Prelude.{◌≡◌, ◌⊎◌, Some, None, true, false, IfSome};
+ghost use Rattle.std.specs.Prelude.{◌≡◌, ◌⊎◌, Some, None, true, false, is_some, IfSome};
 ghost use Rattle.std.specs.Arc.{arc_value};
 ghost use Rattle.fwd_handshake.specs.Draws.{hex_drawn};
 ghost use Rattle.fwd_output.specs.Looks.{IsForUse};
+ghost use Rattle.fwd_output.specs.Paged.{MayTake, Takes, taken_of};
 ghost use Rattle.fwd_workers.specs.Choosing.{HasGoneOver, HasStayed, IsKeptOrLeft};
 ghost use Rattle.fwd_workers.specs.Endings.{news_of, went_of};
+ghost use Rattle.fwd_workers.specs.Placed.{Becomes, Moves, Stands, held, with};
 ghost use Rattle.fwd_workers.specs.Working.{
+  IsTended,
   HasGone,
   HasLoaded,
   HasLoadedMore,
@@ -17,7 +20,7 @@ ghost use Rattle.fwd_workers.specs.Working.{
 
 use super::Worker;
 use crate::denial::denial_in;
-use crate::ending::EndReason;
+use crate::ending::{EndReason, NoSession};
 use crate::next_chunk::{Sight, Way, look_for, way_of};
 use crate::turn_context::{Outside, TurnContext};
 use crate::upstream::{IdleUpstream, UpstreamWithRoom, WorkerState};
@@ -25,26 +28,30 @@ use crate::upstream_end::end_free;
 use crate::upstream_turn::{allow_close, ended, serve_free, to_end};
 use fwd_chunks::Carried;
 use fwd_environment::{Clock, Hub, Link, LossReason, WorkerEvent};
+use fwd_history::Run;
 use fwd_output::{ChunkUse, Found, PickedChunk, Tally};
 use fwd_session::LoadFailed;
 use std::mem;
 use std::sync::Wait;
 
-impl Worker {
+impl<J: Run> Worker<J> {
     /// What the worker finds for this use in its output. Only now are chunks closed that are due,
     /// so that entries go on joining them while all workers are at work, and none that is left open
     /// a little longer. That it takes for this worker no clause can see through the lock: it is
     /// tested.
-    pub(super) fn look_for<A: Tally, S: Tally, R: Wait>(
-        &self,
+    pub(super) fn look_for<A: Tally<Run = J>, S: Tally, R: Wait>(
+        &mut self,
         context: &TurnContext<'_, A, S, R>,
         seat: &mut S::Seat,
         chunk_use: ChunkUse,
     ) -> Sight
+        requires { MayTake self.old.page self.old.page.output }
+        ensures takes { Takes self.old.page (taken_of result.found) self.new.page }
+        ensures kept { self.new ≡ record self.old { page = self.new.page } }
         ensures fits { IsForUse result.found result.view chunk_use }
         ensures same { seat.new ≡ seat.old }
     {
-        look_for(context, self.alloc, seat, self.number, chunk_use)
+        look_for(context, self.alloc, seat, &mut self.page, chunk_use)
     }
 
     /// A chunk that was taken, and how often it was lost is noted.
@@ -59,12 +66,15 @@ impl Worker {
     }
 
     /// An upstream without a chunk is kept, unless it is to end.
-    pub(super) fn stand<A: Tally, S: Tally, L: Link, R: Wait>(
+    pub(super) fn stand<A: Tally<Run = J>, S: Tally, L: Link, R: Wait>(
         &mut self,
         context: &TurnContext<'_, A, S, R>,
         seat: &mut S::Seat,
         free: IdleUpstream<L>,
     ) -> WorkerState<L>
+        requires { self.old.page.has ≡ Some (with None (Some free.upstream.session)) }
+        ensures has { Becomes self.old.page self.new.page (held result) }
+        ensures terms { self.new.terms ≡ self.old.terms }
         ensures same { seat.new ≡ seat.old }
         ensures stands { free.upstream.ending ≡ None → (result ≡ WorkerState.Standing free)
             × (free.upstream.session.down ≡ false) × (self.new.event ≡ self.old.event) }
@@ -75,7 +85,7 @@ impl Worker {
             None => WorkerState::Standing(free),
             Some(ending) => {
                 self.tell_end(ending, free.upstream.session.server());
-                end_free(context, seat, free, None);
+                end_free(context, seat, &mut self.page, free, None);
                 WorkerState::Idle
             }
         }
@@ -96,12 +106,15 @@ impl Worker {
     /// server the worker is to try by then: else it would go again where it was lost. Where the
     /// output holds nothing any more, the session stands. Where it ends its server is lost, and the
     /// worker seeks on.
-    pub(super) fn take_first<A: Tally, S: Tally, L: Link, R: Wait>(
+    pub(super) fn take_first<A: Tally<Run = J>, S: Tally, L: Link, R: Wait>(
         &mut self,
         context: &TurnContext<'_, A, S, R>,
         seat: &mut S::Seat,
         free: IdleUpstream<L>,
     ) -> WorkerState<L>
+        requires { self.old.page.has ≡ Some (with None (Some free.upstream.session)) }
+        ensures has { Becomes self.old.page self.new.page (held result) }
+        ensures terms { self.new.terms ≡ self.old.terms }
         ensures same { seat.new ≡ seat.old }
         ensures taken { free.upstream.ending ≡ None → HasTakenFirst result self.new.event
             free.upstream.session context.entry.now.now (L.calls free.upstream.link) }
@@ -110,12 +123,12 @@ impl Worker {
         if leaves || context.out.counts(context.rt).held == 0 {
             return WorkerState::Standing(free);
         }
-        let free = serve_free(context.rt, self.alloc, &mut self.room, free, context.now);
+        let free = self.serve_free(context, free);
         if let Some(ending) = free.upstream.ending {
             let server = free.upstream.session.server();
             self.miss(context, server);
             self.tell_end(ending, server);
-            end_free(context, seat, free, None);
+            end_free(context, seat, &mut self.page, free, None);
             return WorkerState::Seeking;
         }
         if !free.upstream.session.is_ready() {
@@ -130,7 +143,7 @@ impl Worker {
     /// The session that was sought, which is ready, has the chunk that was found for it, and the
     /// claim is over. A chunk that was lost there and is to go elsewhere was passed by, and the
     /// worker leaves the session for it in its next turn.
-    fn keep_or_leave<A: Tally, S: Tally, L: Link, R: Wait>(
+    fn keep_or_leave<A: Tally<Run = J>, S: Tally, L: Link, R: Wait>(
         &mut self,
         context: &TurnContext<'_, A, S, R>,
         free: IdleUpstream<L>,
@@ -138,6 +151,7 @@ impl Worker {
     ) -> WorkerState<L>
         ensures kept { IsKeptOrLeft result free found self.new.doubts.leaves }
         ensures quiet { self.new ≡ record self.old { doubts = self.new.doubts } }
+        ensures has { held result ≡ with (taken_of found) (Some free.upstream.session) }
     {
         match found {
             Found::Nothing => WorkerState::Sought(free),
@@ -156,7 +170,11 @@ impl Worker {
 
     /// A session ended before it had a chunk. The chunk that it was sought for, if it was lost
     /// elsewhere, counts as lost there too.
-    fn miss<A: Tally, S: Tally, R: Wait>(&mut self, context: &TurnContext<'_, A, S, R>, server: u16)
+    fn miss<A: Tally<Run = J>, S: Tally, R: Wait>(
+        &mut self,
+        context: &TurnContext<'_, A, S, R>,
+        server: u16,
+    )
         ensures { self.new ≡ record self.old { doubts = self.new.doubts } }
     {
         if let Some(chunk) = self.doubts.errand.take() {
@@ -167,26 +185,23 @@ impl Worker {
     /// Takes a chunk for the session that stands, unless the server closed it. Where the worker is
     /// to try another server for the chunk, that stays free, for any worker, until there is a
     /// session with the other server that is ready. What another worker claims is left to it.
-    pub(super) fn take_next<A: Tally, S: Tally, H: Hub, C: Clock, R: Wait>(
+    pub(super) fn take_next<A: Tally<Run = J>, S: Tally, H: Hub, C: Clock, R: Wait>(
         &mut self,
         context: &TurnContext<'_, A, S, R>,
         seat: &mut S::Seat,
         outside: &mut Outside<'_, H, C>,
         free: IdleUpstream<H::Line>,
     ) -> WorkerState<H::Line>
+        requires { Stands self.old.page (with None (Some free.upstream.session)) self.old.terms }
+        ensures has { Becomes self.old.page self.new.page (held result) }
+        ensures terms { self.new.terms ≡ self.old.terms }
         ensures same { seat.new ≡ seat.old }
         ensures taken { free.upstream.ending ≡ None → HasTakenNext result self.new.event
             free.upstream.session context.entry.now.now (H.Line.calls free.upstream.link)
-            (setup_by (arc_value self.old.login) (hex_drawn 0 4 self.old.rng)
-            self.old.acks context.entry.now.now) }
+            (setup_by (arc_value self.old.terms.login) (hex_drawn 0 4 self.old.rng)
+            self.old.terms.acks context.entry.now.now) }
     {
-        let free = allow_close(serve_free(
-            context.rt,
-            self.alloc,
-            &mut self.room,
-            free,
-            context.now,
-        ));
+        let free = allow_close(self.serve_free(context, free));
         if free.upstream.ending.is_some() || !free.upstream.session.is_ready() {
             return self.stand(context, seat, free);
         }
@@ -202,8 +217,34 @@ impl Worker {
         }
     }
 
+    /// A turn of an upstream without a chunk.
+    fn serve_free<A: Tally<Run = J>, S: Tally, L: Link, R: Wait>(
+        &mut self,
+        context: &TurnContext<'_, A, S, R>,
+        free: IdleUpstream<L>,
+    ) -> IdleUpstream<L>
+        ensures turn { free.upstream.ending ≡ None → IsTended free.upstream.session
+            result.upstream.session context.entry.now.now (L.calls free.upstream.link)
+            (L.calls result.upstream.link) result.upstream.ending }
+        ensures over { is_some free.upstream.ending ≡ true
+            → result.upstream.ending ≡ free.upstream.ending }
+        ensures moves { Moves self.old.page self.new.page free.upstream.session
+            result.upstream.session }
+        ensures kept { self.new
+            ≡ record self.old { room = self.new.room; page = self.new.page } }
+    {
+        serve_free(
+            context.rt,
+            self.alloc,
+            &mut self.room,
+            &mut self.page,
+            free,
+            context.now,
+        )
+    }
+
     /// Leaves the session that stands for one with another server, where one can be had.
-    fn go_over<A: Tally, S: Tally, H: Hub, C: Clock, R: Wait>(
+    fn go_over<A: Tally<Run = J>, S: Tally, H: Hub, C: Clock, R: Wait>(
         &mut self,
         context: &TurnContext<'_, A, S, R>,
         seat: &mut S::Seat,
@@ -211,31 +252,60 @@ impl Worker {
         free: IdleUpstream<H::Line>,
         way: Way,
     ) -> WorkerState<H::Line>
-        requires { free.upstream.ending ≡ None }
+        requires on { free.upstream.ending ≡ None }
+        requires stands { Stands self.old.page (with None (Some free.upstream.session))
+            self.old.terms }
+        ensures has { Becomes self.old.page self.new.page (held result) }
+        ensures terms { self.new.terms ≡ self.old.terms }
         ensures same { seat.new ≡ seat.old }
-        ensures gone { HasGoneOver result free (setup_by (arc_value self.old.login)
-            (hex_drawn 0 4 self.old.rng) self.old.acks context.entry.now.now way.server) }
+        ensures gone { HasGoneOver result free (setup_by (arc_value self.old.terms.login)
+            (hex_drawn 0 4 self.old.rng) self.old.terms.acks context.entry.now.now way.server) }
     {
-        let Some(other) = self.try_server(context, seat, outside, way.server) else {
-            return self.stay(context, seat, free, way);
+        let met = match self.meet(context, outside.hub, way.server) {
+            Ok(met) => met,
+            Err(why) => {
+                self.tell_unmet(why, way.server);
+                self.blame(context, outside, why, way.server);
+                return self.stay(context, seat, free, way);
+            }
         };
+        self.doubts.begin();
         if way.was_lost_here {
             self.doubts.errand = Some(way.chunk);
         }
-        end_free(context, seat, free, None);
-        WorkerState::Sought(other)
+        end_free(context, seat, &mut self.page, free, None);
+        WorkerState::Sought(self.begins(met, context.now))
+    }
+
+    /// A server that is to blame is lost, at the moment that it is now.
+    fn blame<A: Tally<Run = J>, S: Tally, H: Hub, C: Clock, R: Wait>(
+        &mut self,
+        context: &TurnContext<'_, A, S, R>,
+        outside: &mut Outside<'_, H, C>,
+        why: NoSession,
+        server: u16,
+    )
+        ensures { self.new ≡ self.old }
+    {
+        let now = outside.clock.now();
+        if let NoSession::Link(_) = why {
+            let _ = context.out.lose(context.rt, self.alloc, server, now);
+        }
     }
 
     /// No session could be had in place of the one that stands. A chunk that was lost here counts
     /// as lost there too: it may go to a third server. Else the session that stands takes what is
     /// free for it.
-    fn stay<A: Tally, S: Tally, L: Link, R: Wait>(
+    fn stay<A: Tally<Run = J>, S: Tally, L: Link, R: Wait>(
         &mut self,
         context: &TurnContext<'_, A, S, R>,
         seat: &mut S::Seat,
         free: IdleUpstream<L>,
         way: Way,
     ) -> WorkerState<L>
+        requires { self.old.page.has ≡ Some (with None (Some free.upstream.session)) }
+        ensures has { Becomes self.old.page self.new.page (held result) }
+        ensures terms { self.new.terms ≡ self.old.terms }
         ensures same { seat.new ≡ seat.old }
         ensures stays { HasStayed result free }
         ensures leaves { way.was_lost_here ≡ true → result ≡ WorkerState.Standing free }
@@ -253,20 +323,23 @@ impl Worker {
     }
 
     /// Loads the chunk that was taken, once the session is ready; until then the session is served.
-    pub(super) fn load<A: Tally, S: Tally, L: Link, R: Wait>(
+    pub(super) fn load<A: Tally<Run = J>, S: Tally, L: Link, R: Wait>(
         &mut self,
         context: &TurnContext<'_, A, S, R>,
         seat: &mut S::Seat,
         free: IdleUpstream<L>,
         chunk: Carried,
     ) -> WorkerState<L>
+        requires { self.old.page.has ≡ Some (with (Some chunk) (Some free.upstream.session)) }
+        ensures has { Becomes self.old.page self.new.page (held result) }
+        ensures terms { self.new.terms ≡ self.old.terms }
         ensures same { seat.new ≡ seat.old }
         ensures loaded { free.upstream.ending ≡ None
             → HasLoaded result free.upstream.session chunk context.entry.now.now }
         ensures gone { HasGone result self.old.last self.new.last self.new.event }
     {
         if free.upstream.ending.is_some() || !free.upstream.session.is_ready() {
-            let free = serve_free(context.rt, self.alloc, &mut self.room, free, context.now);
+            let free = self.serve_free(context, free);
             return self.wait_for(context, seat, free, chunk);
         }
         let IdleUpstream { mut upstream } = free;
@@ -275,6 +348,7 @@ impl Worker {
             .suspect(context, upstream.session.server(), &chunk);
         match upstream.session.load(self.alloc, chunk, context.now) {
             Ok(()) => {
+                self.page.load(context.now);
                 self.doubts.load(suspect);
                 self.go_to(upstream.session.server());
                 WorkerState::Loaded(upstream)
@@ -290,13 +364,16 @@ impl Worker {
     }
 
     /// Loads the chunk that was taken, beside those that the session has.
-    pub(super) fn load_more<A: Tally, S: Tally, L: Link, R: Wait>(
+    pub(super) fn load_more<A: Tally<Run = J>, S: Tally, L: Link, R: Wait>(
         &mut self,
         context: &TurnContext<'_, A, S, R>,
         seat: &mut S::Seat,
         roomy: UpstreamWithRoom<L>,
         chunk: Carried,
     ) -> WorkerState<L>
+        requires { self.old.page.has ≡ Some (with (Some chunk) (Some roomy.upstream.session)) }
+        ensures has { Becomes self.old.page self.new.page (held result) }
+        ensures terms { self.new.terms ≡ self.old.terms }
         ensures same { seat.new ≡ seat.old }
         ensures loaded { HasLoadedMore result self.new.event roomy.upstream.session chunk
             context.entry.now.now }
@@ -305,6 +382,7 @@ impl Worker {
         let UpstreamWithRoom { mut upstream } = roomy;
         match upstream.session.load(self.alloc, chunk, context.now) {
             Ok(()) => {
+                self.page.load(context.now);
                 self.go_to(upstream.session.server());
                 WorkerState::Loaded(upstream)
             }
@@ -318,7 +396,9 @@ impl Worker {
     /// A chunk goes to a server, which is told where the last one went to another.
     fn go_to(&mut self, server: u16)
         ensures told { self.new.event ≡ went_of self.old.last server }
-        ensures kept { self.new.last ≡ Some server }
+        ensures last { self.new.last ≡ Some server }
+        ensures kept { self.new
+            ≡ record self.old { event = self.new.event; last = self.new.last } }
     {
         self.event = match self.last {
             Some(last) if last != server => Some(WorkerEvent::Went { server }),
@@ -328,13 +408,16 @@ impl Worker {
     }
 
     /// A chunk waits for its session, unless that is to end; then the chunk goes back.
-    fn wait_for<A: Tally, S: Tally, L: Link, R: Wait>(
+    fn wait_for<A: Tally<Run = J>, S: Tally, L: Link, R: Wait>(
         &mut self,
         context: &TurnContext<'_, A, S, R>,
         seat: &mut S::Seat,
         free: IdleUpstream<L>,
         chunk: Carried,
     ) -> WorkerState<L>
+        requires { self.old.page.has ≡ Some (with (Some chunk) (Some free.upstream.session)) }
+        ensures has { Becomes self.old.page self.new.page (held result) }
+        ensures terms { self.new.terms ≡ self.old.terms }
         ensures same { seat.new ≡ seat.old }
         ensures waits { free.upstream.ending ≡ None → (result ≡ WorkerState.Took free chunk)
             × (self.new.event ≡ self.old.event) }
@@ -346,7 +429,7 @@ impl Worker {
             None => WorkerState::Took(free, chunk),
             Some(ending) => {
                 self.tell_end(ending, free.upstream.session.server());
-                end_free(context, seat, free, Some(chunk));
+                end_free(context, seat, &mut self.page, free, Some(chunk));
                 WorkerState::Idle
             }
         }

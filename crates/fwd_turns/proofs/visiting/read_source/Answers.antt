@@ -3,7 +3,7 @@ use Rattle.fwd_turns.proofs.Reading.{gives_none}
 use Rattle.fwd_turns.proofs.visiting.read_source.Goals as goal
 
 pub returns-clause-read : goal.returns-clause-read
-returns-clause-read c = λ none open_ few. record {
+returns-clause-read g c = λ none open_ few. record {
   most = length c.hear-again.new.room;
   within = omega (arith, length-append c.hear-again.new.room (drop c.portion-most.result c.args.room.now));
   between = c.hear-again.new.self;
@@ -12,7 +12,7 @@ returns-clause-read c = λ none open_ few. record {
 }
 
 pub returns-clause-none : goal.returns-clause-none
-returns-clause-none c =
+returns-clause-none g c =
     gives_none c.args.now (length c.hear-again.new.room) c.args.to_end c.hear-again.result
     c.args.source.now c.hear-again.new.self c.judge.new.source c.hear-again.ensures.closed
     c.hear-again.ensures.held c.hear-again.ensures.read c.judge.ensures

@@ -4,9 +4,9 @@ use Rattle.fwd_workers.proofs.Keeping.{hears-free}
 use Rattle.fwd_workers.proofs.serve.hear.Goals as goal
 
 pub returns-in-Acked-clause-chunk : goal.returns-in-Acked-clause-chunk
-returns-in-Acked-clause-chunk c free =
+returns-in-Acked-clause-chunk g c free =
     subst IsFree (sym c.in-Ok.ensures.next) (hears-free c.args.session.now c.args.bytes.now free)
 
 pub returns-in-Fault-clause-chunk : goal.returns-in-Fault-clause-chunk
-returns-in-Fault-clause-chunk c free =
+returns-in-Fault-clause-chunk g c free =
     subst IsFree (sym c.in-Ok.ensures.next) (hears-free c.args.session.now c.args.bytes.now free)

@@ -1,6 +1,7 @@
-use Rattle.std.proofs.Common.{arith, ap, length}
+use Rattle.std.proofs.Common.{arith, ap, length, sym, Some, ◌∙◌}
 use Rattle.std.specs.Prelude.{is_some}
 use Rattle.fwd_session.specs.Live.{LiveSession}
+use Rattle.fwd_model.specs.Step.{with_session}
 use Rattle.fwd_workers.proofs.Keeping.{same-window}
 use Rattle.fwd_workers.proofs.Leading.{acked-upstream}
 use Rattle.fwd_workers.specs.Working.{next_entries}
@@ -25,3 +26,8 @@ returns-clause-most g c =
       kept-most kept g.met.S.Tally.kept_adds c.settle.result (length c.in_ok-acked.chunk.entries) c.settle.ensures.most,
       ap (λ next. kept (next_entries next)) c.in_ok-acked.ensures.chunk,
     )
+
+pub returns-clause-moves : goal.returns-clause-moves
+returns-clause-moves g c x has stands =
+    c.settle.ensures.settles x c.args.upstream.now.session has stands
+    ∙ ap (λ t. record c.args.page.now { has = Some (with_session x t) }) (sym c.acked.ensures.next)

@@ -19,10 +19,10 @@ invariant_of-result-in_default g c =
     let on : is_some c.args.upstream.ending ≡ false = sym c.is_some.ensures ∙ c.if-is_some.false in
     let own = subst (λ b. ∥ IsOfLink c.args.upstream.session (seen_in calls) b ∥₁) on c.args.upstream.of_link in
     record {
-      of_link = late-upstream c.args.upstream.session c.late.new.self c.args.now calls own
-          (c.late.ensures.next (up-upstream c.args.upstream.session calls own));
-      window = same-window c.args.upstream.session c.late.new.self
-          (ap (λ (x : LiveSession). x.setup) (c.late.ensures.next (up-upstream c.args.upstream.session calls own))
+      of_link = late-upstream c.args.upstream.session c.late-2.new.self c.args.now calls own
+          (c.late-2.ensures.next (up-upstream c.args.upstream.session calls own));
+      window = same-window c.args.upstream.session c.late-2.new.self
+          (ap (λ (x : LiveSession). x.setup) (c.late-2.ensures.next (up-upstream c.args.upstream.session calls own))
           ∙ looks-setup c.args.upstream.session c.args.now) c.args.upstream.window;
     }
 
@@ -33,15 +33,15 @@ invariant_of-result-2 g c =
     let own = subst (λ b. ∥ IsOfLink c.args.upstream.session (seen_in calls) b ∥₁) on c.args.upstream.of_link in
     let up = up-upstream c.args.upstream.session calls own in
     record {
-      of_link = served-upstream c.serve_in_room-served.result c.args.upstream.session c.late.new.self
+      of_link = served-upstream c.serve_in_room-served.result c.args.upstream.session c.late-2.new.self
           c.serve_in_room-served.new.session c.args.now calls
           (g.L.Link.calls c.serve_in_room-served.new.link) c.lost.result own
           (answered (c.in-Ok-false.ensures.late up) c.in-Ok-false.field-0-test)
-          (c.late.ensures.next up) c.serve_in_room-served.ensures.served
+          (c.late-2.ensures.next up) c.serve_in_room-served.ensures.served
           (c.lost.ensures ∙ ap (λ w. option_map ending.Lost w) c.loss_in.ensures);
       window = same-window c.args.upstream.session c.serve_in_room-served.new.session
           (c.serve_in_room-served.ensures.setup
-          ∙ ap (λ (x : LiveSession). x.setup) (c.late.ensures.next up)
+          ∙ ap (λ (x : LiveSession). x.setup) (c.late-2.ensures.next up)
           ∙ looks-setup c.args.upstream.session c.args.now) c.args.upstream.window;
     }
 
@@ -50,9 +50,9 @@ returns-clause-turn g c none =
     let calls : List Call = g.L.Link.calls c.args.upstream.link in
     let own = subst (λ o. ∥ IsOfLink c.args.upstream.session (seen_in calls) (is_some o) ∥₁) none c.args.upstream.of_link in
     let up = up-upstream c.args.upstream.session calls own in
-    served-tended c.serve_in_room-served.result c.args.upstream.session c.late.new.self
+    served-tended c.serve_in_room-served.result c.args.upstream.session c.late-2.new.self
     c.serve_in_room-served.new.session c.args.now calls
     (g.L.Link.calls c.serve_in_room-served.new.link) c.lost.result up
     (answered (c.in-Ok-false.ensures.late up) c.in-Ok-false.field-0-test)
-    (c.late.ensures.next up) c.serve_in_room-served.ensures.turn c.serve_in_room-served.ensures.served
+    (c.late-2.ensures.next up) c.serve_in_room-served.ensures.turn c.serve_in_room-served.ensures.served
     (c.lost.ensures ∙ ap (λ w. option_map ending.Lost w) c.loss_in.ensures)

@@ -9,7 +9,7 @@ use Rattle.fwd_model.specs.Outputs.{numbers_back, output_ends, returned}
 use Rattle.fwd_model.specs.Step as steps
 use Rattle.fwd_model.specs.Live.{LiveLane, lives}
 use Rattle.fwd_core.specs.Lanes.{AreHeld, chunks_at, no_work}
-use Rattle.fwd_output.specs.HandedBack.{AreHere}
+use Rattle.fwd_run.specs.Pages.{AreCarried}
 use Rattle.fwd_core.proofs.LaneLemmas.{read_same, all_given, end_is}
 use Rattle.fwd_core.proofs.HeldLemmas.{held-ends, held-here}
 use Rattle.fwd_core.proofs.lane.Lane.end.Goals as goal
@@ -26,8 +26,8 @@ invariant_of-self c =
     let again : slice_get workers.items place ≡ Some z = slice_get_read workers.items c.len.result place z size c.if-place-len.false c.index-else-is_idle.ensures in
     let none = ap (λ (k : Worker LiveSession). steps.has_acked lives k.session) (sym (read_same workers.items place z x again here)) ∙ sym c.is_acked.ensures ∙ c.if-is_acked.false in
     let has : chunks_at x ≡ option_to_list x.taken ++ steps.unacknowledged_of lives x.session = all_given x none in
-    let is_here : AreHere out.buffer (option_to_list c.end-taken.result.taken ++ c.end-taken.result.loaded.items) =
-    subst (AreHere out.buffer) (has ∙ (λ i. option_to_list (sym c.end-taken.ensures.taken i) ++ sym c.end-taken.ensures.loaded i)) (held-here out.buffer workers.items place x c.self.invariant here) in
+    let is_here : AreCarried out.buffer (option_to_list c.end-taken.result.taken ++ c.end-taken.result.loaded.items) =
+    subst (AreCarried out.buffer) (has ∙ (λ i. option_to_list (sym c.end-taken.ensures.taken i) ++ sym c.end-taken.ensures.loaded i)) (held-here out.buffer workers.items place x c.self.invariant here) in
     let output = c.end.ensures.here is_here ∙ (λ i. output_ends out (returned (c.end-taken.ensures.taken i) (c.end-taken.ensures.loaded i)) (c.end-taken.ensures.server i) c.args.now) in
     subst (λ k. AreHeld c.end.new.self.buffer (slice_set workers.items place k)) (sym c.end-taken.ensures.idle)
     (subst (λ d. AreHeld d (slice_set workers.items place no_work)) (sym (ap (λ o. o.buffer) output))
@@ -66,8 +66,8 @@ returns-clause-next c =
     let again : slice_get workers.items place ≡ Some z = slice_get_read workers.items c.len.result place z size c.if-place-len.false c.index-else-is_idle.ensures in
     let none = ap (λ (k : Worker LiveSession). steps.has_acked lives k.session) (sym (read_same workers.items place z x again here)) ∙ sym c.is_acked.ensures ∙ c.if-is_acked.false in
     let has : chunks_at x ≡ option_to_list x.taken ++ steps.unacknowledged_of lives x.session = all_given x none in
-    let is_here : AreHere out.buffer (option_to_list c.end-taken.result.taken ++ c.end-taken.result.loaded.items) =
-    subst (AreHere out.buffer) (has ∙ (λ i. option_to_list (sym c.end-taken.ensures.taken i) ++ sym c.end-taken.ensures.loaded i)) (held-here out.buffer workers.items place x c.self.invariant here) in
+    let is_here : AreCarried out.buffer (option_to_list c.end-taken.result.taken ++ c.end-taken.result.loaded.items) =
+    subst (AreCarried out.buffer) (has ∙ (λ i. option_to_list (sym c.end-taken.ensures.taken i) ++ sym c.end-taken.ensures.loaded i)) (held-here out.buffer workers.items place x c.self.invariant here) in
     let output = c.end.ensures.here is_here ∙ (λ i. output_ends out (returned (c.end-taken.ensures.taken i) (c.end-taken.ensures.loaded i)) (c.end-taken.ensures.server i) c.args.now) in
     let here_w : slice_get workers.items c.args.worker ≡ Some x = subst (λ n. slice_get workers.items n ≡ Some x) c.from-place.ensures here in
     let y = c.index.result.now in

@@ -2,8 +2,8 @@ use Rattle.std.proofs.Common.{◌++◌, ◌∙◌, map, sym, subst}
 use Rattle.std.specs.Prelude.{All}
 use Rattle.std.specs.List.Sorted.{IsPermutation}
 use Rattle.fwd_output.proofs.OutputLemmas.{given-live, same-setting}
-use Rattle.fwd_output.proofs.RunLemmas.{given-after}
-use Rattle.fwd_output.specs.RunEvents.{AreGivenAfter}
+use Rattle.fwd_output.proofs.Paging.{given-after}
+use Rattle.fwd_output.specs.Paged.{AreGivenAfter}
 use Rattle.fwd_output.specs.Tickets.{AreGiven, IsRight, ticket_of}
 use Rattle.fwd_output.specs.Turns.{LockedState, origins_of}
 use Rattle.fwd_output.proofs.HandingOut.{each-of, given-once, right-of}

@@ -3,7 +3,8 @@ use Rattle.std.specs.Prelude.{map, option_to_list, ◌++◌}
 use Rattle.fwd_chunks.specs.Live.{live_looks}
 use Rattle.fwd_model.specs.Outputs.{LiveOutput, live_gets_back, live_loses, output_ends, returned}
 use Rattle.fwd_output.specs.Coupling.{IsCoupled}
-use Rattle.fwd_output.specs.HandedBack.{AreHere, IsHandedBack, kept_back, lost_back}
+use Rattle.fwd_run.specs.Pages.{AreCarried}
+use Rattle.fwd_output.specs.HandedBack.{IsHandedBack, kept_back, lost_back}
 use Rattle.fwd_output.proofs.CouplingLemmas.{looks-coupled}
 use Rattle.fwd_output.proofs.HandingBack.{handed-back}
 use Rattle.fwd_output.specs.OutputEvents.{IsLiveOutput}
@@ -31,7 +32,7 @@ returns-clause-here c = λ own.
     let now = c.args.now in
     let taken = c.args.taken in
     let loaded = c.args.loaded.items in
-    let here : AreHere o.buffer (option_to_list taken ++ loaded) = subst (λ (x : LiveOutput). AreHere x.buffer (option_to_list taken ++ loaded)) (sym c.self.view_is) own in
+    let here : AreCarried o.buffer (option_to_list taken ++ loaded) = subst (λ (x : LiveOutput). AreCarried x.buffer (option_to_list taken ++ loaded)) (sym c.self.view_is) own in
     let back : IsHandedBack (live_looks o.buffer now) (map kept_back (option_to_list taken) ++ map lost_back loaded) now c.hand_back.new.buffer =
     subst (λ b. IsHandedBack b (map kept_back (option_to_list taken) ++ map lost_back loaded) now c.hand_back.new.buffer) c.look-moment.ensures.looked c.hand_back.ensures.back in
     let buffer : c.hand_back.new.buffer ≡ live_gets_back (live_looks o.buffer now) (returned taken loaded) now = handed-back loaded o.buffer taken now c.hand_back.new.buffer here back in

@@ -1,14 +1,9 @@
-use Rattle.std.proofs.Common.{sym, subst}
-use Rattle.fwd_output.proofs.OutputLemmas.{Turn, look-turn}
-use Rattle.fwd_output.proofs.RunLemmas.{adds, known}
+use Rattle.std.proofs.Common.{refl}
+use Rattle.fwd_output.proofs.Paging.{both-as}
 use Rattle.fwd_output.proofs.paged_output.PagedOutput.choose.Goals as goal
-
-pub add-requires : goal.add-requires
-add-requires g c =
-    let o = c.self.inside in
-    adds o.page o.state c.choose-server.new.self c.self.invariant
-    (λ t. subst (Turn t.history) (sym c.choose-server.ensures.looked) (look-turn o.state c.args.now t))
 
 pub invariant_of-self : goal.invariant_of-self
 invariant_of-self g c =
-    known c.self.inside.page c.add.new.self c.choose-server.new.self c.add.ensures.component c.add.ensures.added c.add.ensures.legal
+    let o = c.self.inside in
+    let own = c.self.invariant.0 in
+    both-as o.page c.look.new.self o.trial o.servers o.state c.choose-server.new.self _ c.self.invariant c.choose-server.ensures.looked refl (c.look.ensures o.state own.config own.is own.set own.some)

@@ -1,28 +1,43 @@
-use Rattle.std.proofs.Common.{arith, sym, subst}
+use Rattle.std.proofs.Common.{◌≡◌, refl, sym, ap, subst, ◌∙◌}
 use Rattle.std.specs.Arc.{arc_value}
 use Rattle.fwd_chunks.specs.Live.{IsCarried}
-use Rattle.fwd_output.proofs.CarriedLemmas.{carried-or}
-use Rattle.fwd_output.proofs.OutputLemmas.{Turn, settle-turn}
-use Rattle.fwd_output.proofs.RunLemmas.{Knows, adds, known}
-use Rattle.fwd_output.proofs.Settling.{holds-if_some, settles-some}
+use Rattle.fwd_session.specs.ServerAcks.{ServerAck}
+use Rattle.fwd_model.specs.Outputs.{LiveOutput, live_count_at, output_settles}
+use Rattle.fwd_output.proofs.Paging.{acked-first, acked-held, both-as}
 use Rattle.fwd_output.proofs.paged_output.PagedOutput.settle.Goals as goal
-
-pub add-requires : goal.add-requires
-add-requires g c =
-    let o = c.self.inside in
-    let e = c.settle-count.ensures in
-    let is : IsCarried o.state.buffer c.args.carried = holds-if_some (IsCarried o.state.buffer c.args.carried) c.settle-count.result (carried-or o.state.buffer c.args.carried) e.none c.if-count-gt0.true in
-    adds o.page o.state c.settle-count.new.self c.self.invariant
-    (λ t. subst (Turn t.history) (sym (e.here is)) (settle-turn o.state (arc_value c.args.acked) c.args.carried t is c.requires))
 
 pub invariant_of-self : goal.invariant_of-self
 invariant_of-self g c =
-    known c.self.inside.page c.add.new.self c.settle-count.new.self c.add.ensures.component c.add.ensures.added c.add.ensures.legal
-
--- a chunk has entries, so where none were settled nothing has changed
-pub invariant_of-self-else-count-gt0 : goal.invariant_of-self-else-count-gt0
-invariant_of-self-else-count-gt0 g c =
     let o = c.self.inside in
-    let e = c.settle-count.ensures in
-    let not : IsCarried o.state.buffer c.args.carried → ⊥ = λ is. let count = e.count is in let some = settles-some o.state.buffer c.args.carried c.is_sound.ensures.chunks is in let none = c.if-count-gt0.false in absurd (omega (arith, count, some, none)) in
-    subst (Knows o.page) (sym (e.elsewhere not)) c.self.invariant
+    let a = c.requires.acked in
+    let own = c.self.invariant.0 in
+    let here = acked-held c.args.worker.now _ (arc_value c.args.acked) c.args.carried o.state.buffer a (c.settle.ensures.held o.state a.worker own.is a.has) in
+    both-as o.page c.settle.new.self o.trial o.servers o.state c.settle-2.new.self _ c.self.invariant
+    (c.settle-2.ensures.here here ∙ ap (output_settles o.state) a.evidence) refl
+    (c.settle.ensures.next o.state a.worker a.session a.acked own.is a.has a.stands a.first).0
+
+pub returns-clause-held : goal.returns-clause-held
+returns-clause-held g c =
+    let o = c.self.inside in
+    let a = c.requires.acked in
+    let here = acked-held c.args.worker.now _ (arc_value c.args.acked) c.args.carried o.state.buffer a (c.settle.ensures.held o.state a.worker c.self.invariant.0.is a.has) in
+    subst (λ (x : LiveOutput). IsCarried x.buffer c.args.carried) c.self.view_is here
+
+pub returns-clause-settled : goal.returns-clause-settled
+returns-clause-settled g c =
+    let o = c.self.inside in
+    let a = c.requires.acked in
+    let here = acked-held c.args.worker.now _ (arc_value c.args.acked) c.args.carried o.state.buffer a (c.settle.ensures.held o.state a.worker c.self.invariant.0.is a.has) in
+    c.settle-2.ensures.here here ∙ ap (λ (x : LiveOutput). output_settles x (arc_value c.args.acked)) c.self.view_is
+
+pub returns-clause-count : goal.returns-clause-count
+returns-clause-count g c =
+    let o = c.self.inside in
+    let a = c.requires.acked in
+    let here = acked-held c.args.worker.now _ (arc_value c.args.acked) c.args.carried o.state.buffer a (c.settle.ensures.held o.state a.worker c.self.invariant.0.is a.has) in
+    c.settle-2.ensures.count here ∙ ap (λ (x : LiveOutput). live_count_at c.args.carried.number x) c.self.view_is
+
+pub returns-clause-settles : goal.returns-clause-settles
+returns-clause-settles g c x s has stands =
+    let a = c.requires.acked in
+    (c.settle.ensures.next c.self.inside.state x s a.acked c.self.invariant.0.is has stands (acked-first c.args.worker.now _ (arc_value c.args.acked) c.args.carried a x s has stands)).1

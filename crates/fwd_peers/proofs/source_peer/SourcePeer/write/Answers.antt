@@ -1,7 +1,7 @@
 use Rattle.fwd_peers.proofs.source_peer.SourcePeer.write.Goals as goal
 
 pub returns : goal.returns
-returns c = record {
+returns g c = record {
   end = c.send-visit.result;
   between = c.send-visit.new.self;
   sent = c.send-visit.ensures;

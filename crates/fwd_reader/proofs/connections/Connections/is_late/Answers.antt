@@ -3,7 +3,7 @@ use Rattle.slab.specs.Slab as slots
 use Rattle.fwd_reader.proofs.connections.Connections.is_late.Goals as goal
 
 pub returns-in-Some : goal.returns-in-Some
-returns-in-Some c late =
+returns-in-Some g c late =
     let opened = c.in-Some.opened.now in
     let there : slots.get c.args.self.now.opened c.args.key ≡ Some opened = search rules in
     (opened, there, sym c.is_late.ensures ∙ late)

@@ -7,12 +7,12 @@ use Rattle.fwd_reader.proofs.Standing.{gone, source_gone}
 use Rattle.fwd_reader.proofs.connections.Connections.remove.Goals as goal
 
 pub returns-in-Source-clause-gone : goal.returns-in-Source-clause-gone
-returns-in-Source-clause-gone c =
+returns-in-Source-clause-gone g c =
     gone c.forget.new.self.opened c.try_remove.new.self c.args.key c.in-Some.ensures.updates
     ∙ ap (λ o. without c.args.key (connections_in o)) c.forget.ensures.opened
 
 pub returns-in-Source-clause-sources : goal.returns-in-Source-clause-sources
-returns-in-Source-clause-sources c =
+returns-in-Source-clause-sources g c =
     let there : slots.get c.forget.new.self.opened c.args.key ≡ Some c.in-Some.opened = sym c.in-Some.ensures.value in
     let own : source_id c.in-Some.opened.connection ≡ Some c.id.result = ap source_id c.in-Source.is ∙ ap Some (sym c.id.ensures.value) in
     let id : source_id_at c.args.self.now c.args.key ≡ Some c.id.result =

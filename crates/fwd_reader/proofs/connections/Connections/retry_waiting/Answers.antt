@@ -3,7 +3,7 @@ use Rattle.fwd_reader.proofs.Queueing.{no_key, none_retried, one_fewer, retried}
 use Rattle.fwd_reader.proofs.connections.Connections.retry_waiting.Goals as goal
 
 pub loop-preserved : goal.loop-preserved
-loop-preserved c = (
+loop-preserved g c = (
   c.retry_next.ensures.stand ∙ c.loop.invariant.0,
   c.retry_next.ensures.sources ∙ c.loop.invariant.1,
   omega (
@@ -17,10 +17,10 @@ loop-preserved c = (
 )
 
 pub returns-clause-none : goal.returns-clause-none
-returns-clause-none c = no_key c.loop.self.waiting.items (omega (arith, c.loop.invariant.2))
+returns-clause-none g c = no_key c.loop.self.waiting.items (omega (arith, c.loop.invariant.2))
 
 pub returns-clause-each : goal.returns-clause-each
-returns-clause-each c =
+returns-clause-each g c =
     c.loop.invariant.3 c.loop.self
     (none_retried c.loop.self
     (no_key c.loop.self.waiting.items (omega (arith, c.loop.invariant.2))))

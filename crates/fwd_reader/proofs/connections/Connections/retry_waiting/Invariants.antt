@@ -6,8 +6,8 @@ use Rattle.fwd_reader.proofs.connections.Connections.retry_waiting.Given as goal
 
 -- the same stand as before; and once those are asked again that are left, all are
 abbrev pub invariant-loop : goal.invariant-loop
-invariant-loop l =
+invariant-loop g l =
     (connection_at l.self ≡ connection_at l.fn.self) × (sources_in l.self ≡ sources_in l.fn.self)
     × (l.counter + length l.self.waiting.items ≡ length l.fn.self.waiting.items)
-    × ((t : Connections) → RetriesAll l.self.waiting.items l.self t
+    × ((t : Connections _) → RetriesAll l.self.waiting.items l.self t
     → RetriesAll l.fn.self.waiting.items l.fn.self t)

@@ -6,7 +6,7 @@ use Rattle.fwd_reader.specs.Owing.{upkeep_of}
 use Rattle.fwd_reader.specs.Tellings.{AreTold}
 use Rattle.fwd_reader.proofs.Answering as answering
 use Rattle.fwd_reader.proofs.Told.{CollectsIn, a_round, collected, further, no_further, no_round, nothing, on, on_err, one_told, whole}
-use Rattle.fwd_reader.proofs.Routed.{open_tickets_handed, open_tickets_refused}
+use Rattle.fwd_reader.proofs.Routed.{AreDelivered, open_tickets_handed, open_tickets_refused}
 use Rattle.fwd_reader.proofs.output_route.OutputRoute.collect.Goals as goal
 
 pub loop-init : goal.loop-init
@@ -27,12 +27,12 @@ loop-preserved g c = (
       let before = c.loop.invariant.0 routes held in
       let given = c.in_ok-handed.ensures.given in (
         open_tickets_handed routes c.loop.self.open_tickets c.hand_in.new.self c.in_ok-handed.handed.0.items given before.0,
-        on routes c.loop.reached c.with.result (sources_in c.args.connections.now)
+        on routes c.loop.reached c.tell_all.new.reached (sources_in c.args.connections.now)
             (sources_in c.loop.connections) (sources_in c.tell_all.new.self) before.1
-            c.with.ensures.0
-            (one_told routes c.with.result c.in_ok-handed.handed.1 (sources_in c.loop.connections)
+            c.tell_all.ensures.onward
+            (one_told routes c.tell_all.new.reached c.in_ok-handed.handed.1 (sources_in c.loop.connections)
             (sources_in c.tell_all.new.self) c.in_ok-handed.handed.0.items c.loop.self.open_tickets
-            c.hand_in.new.self given c.in_ok-handed.ensures.reached c.with.ensures.1 before.0 told),
+            c.hand_in.new.self delivered given c.in_ok-handed.ensures.reached before.0 told),
       ),
   λ more t then_told others.
       subst
@@ -50,13 +50,17 @@ loop-preserved g c = (
       (sources_in c.loop.connections) (sources_in c.tell_all.new.self)
       c.in_ok-handed.handed.0.items c.loop.answered c.saturating_add.result
       c.in_ok-handed.ensures.given told sum),
-  further c.args.reached.now c.loop.reached c.with.result c.loop.invariant.3 c.with.ensures.0,
+  further c.args.reached.now c.loop.reached c.tell_all.new.reached c.loop.invariant.3 c.tell_all.ensures.onward,
 )
   where
     told : AreTold (sources_in c.loop.connections) c.in_ok-handed.handed.0.items
         (sources_in c.tell_all.new.self)
     told = subst (λ rs. AreTold (sources_in c.loop.connections) rs (sources_in c.tell_all.new.self))
-        c.deref.ensures.value c.tell_all.ensures
+        c.deref.ensures.value c.tell_all.ensures.told
+
+    delivered : AreDelivered c.tell_all.new.reached c.in_ok-handed.handed.1 (sources_in c.loop.connections) c.in_ok-handed.handed.0.items
+    delivered = subst (λ rs. AreDelivered c.tell_all.new.reached c.in_ok-handed.handed.1 (sources_in c.loop.connections) rs)
+        c.deref.ensures.value c.tell_all.ensures.delivered
 
     due : ¬ (AreQuiet c.loop.self.open_tickets)
     due = c.is_due.ensures.due c.if-not-is_due.false

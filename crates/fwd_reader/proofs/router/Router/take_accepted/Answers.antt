@@ -6,11 +6,13 @@ use Rattle.fwd_reader.proofs.Admitting.{same_place}
 use Rattle.fwd_reader.proofs.router.Router.take_accepted.Goals as goal
 
 pub invariant_of-self-2 : goal.invariant_of-self-2
-invariant_of-self-2 g c =
-    let same = same_place c.self.inside.all.items c.args.number c.in-Some.output_route.now
-    c.take_accepted.new.self (omega (arith, c.in-Some.ensures.variant.0 refl))
-    c.in-Some.ensures.value c.take_accepted.ensures in
-    subst (All (HoldsRouted c.self.inside.routes.now)) (sym same) c.self.invariant
+invariant_of-self-2 g c = (
+  let same = same_place c.self.inside.all.items c.args.number c.in-Some.output_route.now
+      c.take_accepted.new.self (omega (arith, c.in-Some.ensures.variant.0 refl))
+      c.in-Some.ensures.value c.take_accepted.ensures in
+      subst (All (HoldsRouted c.self.inside.routes.now)) (sym same) c.self.invariant.0,
+  c.self.invariant.1,
+)
 
 pub returns : goal.returns
 returns g c =

@@ -9,36 +9,41 @@ use Rattle.fwd_reader.proofs.Collecting.{changes, tells}
 use Rattle.fwd_reader.proofs.Told.{on_err}
 use Rattle.fwd_reader.specs.Promises.{TellsPromised}
 use Rattle.fwd_reader.specs.OpenConnections.{sources_in}
+use Rattle.fwd_run.proofs.Adding.{routes_onward}
 use Rattle.fwd_reader.proofs.Admitting.{at_place, put_place}
 use Rattle.fwd_reader.proofs.router.Router.try_collect.Goals as goal
 
 pub invariant_of-self-in_err-collect : goal.invariant_of-self-in_err-collect
-invariant_of-self-in_err-collect g c =
-    let held = at_place c.self.inside.routes.now c.self.inside.all.items c.args.number c.in-Some.output_route.now
-    (omega (arith, c.in-Some.ensures.variant.0 refl)) c.in-Some.ensures.value c.self.invariant in
-    put_place c.self.inside.routes.now c.self.inside.all.items c.args.number c.collect.new.self
-    (c.collect.ensures.routed c.self.inside.routes.now held) c.self.invariant
+invariant_of-self-in_err-collect g c = (
+  let held = at_place c.self.inside.routes.now c.self.inside.all.items c.args.number c.in-Some.output_route.now
+      (omega (arith, c.in-Some.ensures.variant.0 refl)) c.in-Some.ensures.value c.self.invariant.0 in
+      put_place c.self.inside.routes.now c.self.inside.all.items c.args.number c.collect.new.self
+      (c.collect.ensures.routed c.self.inside.routes.now held) c.self.invariant.0,
+  routes_onward c.self.inside.routes.now c.self.inside.reached c.collect.new.reached c.collect.ensures.onward.0 c.collect.ensures.onward.1 c.self.invariant.1,
+)
 
 pub returns-in_err-collect-clause-promised : goal.returns-in_err-collect-clause-promised
 returns-in_err-collect-clause-promised g c =
     let held = at_place c.self.inside.routes.now c.self.inside.all.items c.args.number c.in-Some.output_route.now
-    (omega (arith, c.in-Some.ensures.variant.0 refl)) c.in-Some.ensures.value c.self.invariant in
+    (omega (arith, c.in-Some.ensures.variant.0 refl)) c.in-Some.ensures.value c.self.invariant.0 in
     subst
     (λ (o : RouterShown). TellsPromised o.routes c.collect.new.reached
     (sources_in c.args.connections.now) (sources_in c.collect.new.connections))
     c.self.view_is (c.collect.ensures.promised c.self.inside.routes.now held)
 
 pub invariant_of-self-2 : goal.invariant_of-self-2
-invariant_of-self-2 g c =
-    let held = at_place c.self.inside.routes.now c.self.inside.all.items c.args.number c.in-Some.output_route.now
-    (omega (arith, c.in-Some.ensures.variant.0 refl)) c.in-Some.ensures.value c.self.invariant in
-    put_place c.self.inside.routes.now c.self.inside.all.items c.args.number c.collect.new.self
-    (c.collect.ensures.routed c.self.inside.routes.now held) c.self.invariant
+invariant_of-self-2 g c = (
+  let held = at_place c.self.inside.routes.now c.self.inside.all.items c.args.number c.in-Some.output_route.now
+      (omega (arith, c.in-Some.ensures.variant.0 refl)) c.in-Some.ensures.value c.self.invariant.0 in
+      put_place c.self.inside.routes.now c.self.inside.all.items c.args.number c.collect.new.self
+      (c.collect.ensures.routed c.self.inside.routes.now held) c.self.invariant.0,
+  routes_onward c.self.inside.routes.now c.self.inside.reached c.collect.new.reached c.collect.ensures.onward.0 c.collect.ensures.onward.1 c.self.invariant.1,
+)
 
 pub returns-clause-promised : goal.returns-clause-promised
 returns-clause-promised g c =
     let held = at_place c.self.inside.routes.now c.self.inside.all.items c.args.number c.in-Some.output_route.now
-    (omega (arith, c.in-Some.ensures.variant.0 refl)) c.in-Some.ensures.value c.self.invariant in
+    (omega (arith, c.in-Some.ensures.variant.0 refl)) c.in-Some.ensures.value c.self.invariant.0 in
     subst
     (λ (o : RouterShown). TellsPromised o.routes c.collect.new.reached
     (sources_in c.args.connections.now) (sources_in c.collect.new.connections))

@@ -1,5 +1,0 @@
-use Rattle.std.specs.Vec.Iter.{into_iter_len}
-use Rattle.relay_threads.proofs.mirror.Play.end_play.Given as goal
-
-abbrev pub decreases-loop-ticket : goal.decreases-loop-ticket
-decreases-loop-ticket g l = into_iter_len l.rest
