@@ -195,3 +195,16 @@ def test_no_memory_while_sources_hold_the_rest(filled_up, _again):
     with contextlib.ExitStack() as stack:
         hold_rest(one, stack)
         delivered(one, hop, early)
+
+
+def test_few_are_closed_while_the_next_hop_is_away(filled_up, readers):
+    """What is held gives memory back once the next hop is there: till then each reader closes a source a second at most."""
+    one, hop, early = filled_up(fill_small)
+    before, start = one.lines("memory: source"), time.monotonic()
+    with contextlib.ExitStack() as stack:
+        while time.monotonic() < start + 5:
+            stays(one, stack, 1_000_000)
+        closed = one.lines("memory: source") - before
+        if readers == 1:  # several are handed sources that they have no memory for, too
+            assert 0 < closed <= time.monotonic() - start + 2
+    delivered(one, hop, early)

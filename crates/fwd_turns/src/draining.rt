@@ -341,7 +341,7 @@ fn sooner(deadline: Option<u64>, other: u64) -> u64
 }
 
 /// How many entries these outputs hold. Each is locked by itself for a moment.
-fn held_in<J: Run, R: Wait>(rt: &R, outputs: &[Output<J>]) -> u64 {
+pub(crate) fn held_in<J: Run, R: Wait>(rt: &R, outputs: &[Output<J>]) -> u64 {
     let mut held: u64 = 0;
     for output in outputs {
         held = held.saturating_add(output.shared.counts(rt).held);

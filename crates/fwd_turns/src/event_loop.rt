@@ -201,7 +201,7 @@ impl<J: Run> EventLoop<J> {
         if self.visitor.memory.is_refused(now) {
             self.visitor.memory.is_paused |= acceptor.sources.is_urgent();
         } else if acceptor.accept_sources(rt, &mut incoming, arrivals.setup, observer) {
-            self.visitor.memory.refuse(now);
+            self.visitor.memory.refuse(now, false);
         }
         acceptor.accept_monitors(&mut incoming, observer);
         self.acceptor = Some(acceptor);
@@ -256,7 +256,7 @@ impl<J: Run> EventLoop<J> {
         let source = Peer::Source(source);
         if self.connections.add(registry, source, now).is_err() {
             observer.observe(JournalEvent::Memory(MemoryFor::Source(peer)));
-            self.visitor.memory.refuse(now);
+            self.visitor.memory.refuse(now, false);
         }
     }
 

@@ -10,7 +10,8 @@ use fwd_monitors::{JournalEvent, MemoryFor, Observer};
 /// would be refused like it, and closed like it.
 const STARVED: u64 = 1_000;
 
-/// The same where a chunk was settled since, which gives memory back.
+/// The same where a chunk was settled since, which gives memory back; or where no output held an
+/// entry, so that nothing else does but a source that goes.
 const SETTLED: u64 = 100;
 
 /// How long workers take it that memory may be refused at any moment, once it was for a source, in
@@ -23,7 +24,7 @@ pub(crate) struct LoopMemory {
     flags: SharedFlags,
     /// When it was refused for a source last, in milliseconds, if it was.
     refused: Option<u64>,
-    /// A chunk was settled since.
+    /// A chunk was settled since, or a source went then, and no output held an entry.
     pub is_settled: bool,
     /// No source was read when the loop came to them last, though some were ready.
     pub is_paused: bool,
@@ -122,11 +123,12 @@ impl LoopMemory {
         }
     }
 
-    /// Memory was refused for a source at a moment (milliseconds).
-    pub fn refuse(&mut self, now: u64)
-        ensures { self.new ≡ record self.old { refused = Some now; is_settled = false } }
+    /// Memory was refused for a source at a moment (milliseconds). Where all that outputs held was
+    /// settled by then, a source that goes gives memory back, and nothing else does.
+    pub fn refuse(&mut self, now: u64, is_settled: bool)
+        ensures { self.new ≡ record self.old { refused = Some now; is_settled = is_settled } }
     {
         self.refused = Some(now);
-        self.is_settled = false;
+        self.is_settled = is_settled;
     }
 }

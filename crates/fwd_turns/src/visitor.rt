@@ -7,7 +7,7 @@ ghost use Rattle.fwd_reader.specs.OpenConnections.{connection_at};
 ghost use Rattle.fwd_reader.specs.declared.peer.Peer.TheVariants.{Source};
 ghost use Rattle.fwd_turns.specs.Keeping.{IsDone, IsReadAt, IsReadFrom, IsReadTo, ReadsAndServes};
 
-use crate::draining::{is_dropped, read_leaving};
+use crate::draining::{held_in, is_dropped, read_leaving};
 use crate::event_loop::ReadContext;
 use crate::loop_memory::LoopMemory;
 use crate::visiting::{After, after_visit, serve_monitor, tell_end};
@@ -134,7 +134,8 @@ impl Visitor {
         let again = read_leaving(source, self.alloc, &mut self.room, to_end, now);
         let waits = admit_waiting(rt, context.router, source, now);
         if tell_end(source, observer) {
-            self.memory.refuse(now);
+            let held = held_in(rt, context.parts.outputs);
+            self.memory.refuse(now, held == 0);
         }
         after_visit(source, again, waits, to_end)
     }
