@@ -10,7 +10,7 @@ import threading
 import warnings
 
 from forward import connect
-from relay import Child
+from relay import Child, until
 
 HERE = pathlib.Path(__file__).parent
 TIME = b"\xce\x65\x00\x00\x00"
@@ -49,10 +49,14 @@ class Probe(Child):
         assert "wrong" not in told, told
         return told
 
-    def waited(self, what):
-        """Says how long somebody waited since it was asked last, without what was waited for a core."""
+    def answered(self):
+        """What was since it was asked last, where somebody was answered since."""
         told = self.since()
-        assert told["count"] > 0, f"{what}: nothing was asked"
+        return told if told["count"] > 0 else None
+
+    def waited(self, what):
+        """Says how long somebody waited for an answer since it was asked last, without what was waited for a core."""
+        told = until(self.answered, f"{what}: nobody is answered")
         within(f"{what}, ms", told["own"], 100, 1_000)
 
 
