@@ -59,10 +59,11 @@ def test_links():
 
 
 def test_version():
-    """The program's version is the newest of CHANGELOG, of a day that the manual page has too."""
+    """The program's version is the newest of CHANGELOG, of a day that the manual page has too; what came since may stand before."""
     version = re.search(r'VERSION: &str = "(.+)";', text_of("crates/fwd_monitor/src/version.rt"))[1]
     headings = re.findall(r"^## (.*)$", text_of("CHANGELOG.md"), re.MULTILINE)
-    dated = [re.fullmatch(r"\[(\d+\.\d+\.\d+)\] - (\d{4}-\d\d-\d\d)", heading) for heading in headings]
+    released = headings[1:] if headings[0] == "[Unreleased]" else headings
+    dated = [re.fullmatch(r"\[(\d+\.\d+\.\d+)\] - (\d{4}-\d\d-\d\d)", heading) for heading in released]
     assert all(dated), headings
     assert dated[0][1] == version
     assert [match[2] for match in dated] == sorted((match[2] for match in dated), reverse=True)

@@ -47,6 +47,23 @@ asks("wait 27", 67_108_864)
 asks("wait 28", DAY)
 asks(f"wait {TOP}", DAY)
 
+# ---- the sessions that end in one outage are one loss: a loss during the wait after another changes nothing
+call("servers p 500 4000")
+for moment in (1000, 1000, 1001, 1499):
+    call(f"failed 0 {moment}")
+asks("choose 0 1499", None)
+asks("choose 0 1500", 0)
+call("failed 0 1500")
+call("failed 0 1700")
+asks("choose 0 2499", None)
+asks("choose 0 2500", 0)
+# what a server settles during its wait ends that, and the next loss is a first one
+call("failed 0 2500")
+call("settled 0")
+call("failed 0 2600")
+asks("choose 0 3099", None)
+asks("choose 0 3100", 0)
+
 # ---- which servers have a loss that they still wait for, the worker, and the server that it gets
 CHOICES = {
     # the primaries once round from the worker's, with workers above their number

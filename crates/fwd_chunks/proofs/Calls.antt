@@ -20,6 +20,7 @@ looks-stored b moment size own = record {
     in_order = own.sound.in_order;
     below = own.sound.below;
     within = own.sound.within;
+    fresh = own.sound.fresh;
     total = own.sound.total;
     counted = own.sound.counted;
     accepted = own.sound.accepted;

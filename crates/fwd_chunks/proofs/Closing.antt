@@ -169,6 +169,11 @@ pub filter-alike : (p q : Chunk → Bool) (xs : List Chunk) → AllByRecursion (
 filter-alike p q [] all = refl
 filter-alike p q (x ∷ xs) all = λ i. cond (all.0 i) (x ∷ filter-alike p q xs all.1 i) (filter-alike p q xs all.1 i)
 
+pub find-alike : (p q : Chunk → Bool) (xs : List Chunk) → AllByRecursion (λ c. p c ≡ q c) xs
+    → find p xs ≡ find q xs
+find-alike p q [] all = refl
+find-alike p q (x ∷ xs) all = λ i. cond (all.0 i) (Some x) (find-alike p q xs all.1 i)
+
 -- where no chunk passes
 pub changed-never : (p : Chunk → Bool) (f : Chunk → Chunk) (xs : List Chunk)
     → ((c : Chunk) → p c ≡ false) → changed p f xs ≡ xs
@@ -179,6 +184,11 @@ pub filter-never : (p : Chunk → Bool) (xs : List Chunk) → ((c : Chunk) → p
     → filter p xs ≡ []
 filter-never p [] never = refl
 filter-never p (x ∷ xs) never = ap (λ b. cond b (x ∷ filter p xs) (filter p xs)) (never x) ∙ filter-never p xs never
+
+pub find-never : (p : Chunk → Bool) (xs : List Chunk) → ((c : Chunk) → p c ≡ false)
+    → find p xs ≡ None
+find-never p [] never = refl
+find-never p (x ∷ xs) never = ap (λ b. cond b (Some x) (find p xs)) (never x) ∙ find-never p xs never
 
 -- every open chunk began by the last moment that 64 bits hold
 pub all-began : (interval moment : ℕ) (xs : List Chunk)

@@ -31,3 +31,4 @@ pub mod Shelving
 pub mod Closing
 pub mod Holding
 pub mod Freedom
+pub mod Given

@@ -16,7 +16,7 @@ use Rattle.fwd_chunks.specs.Events.{BufferEvent, Enter, Flush, Take, Settle, Fre
 use Rattle.fwd_chunks.specs.declared.wanted.Wanted.{Wanted}
 use Rattle.fwd_chunks.specs.Live.{LiveBuffer, live_opening, is_open, staged, changed, is_at, held_in, bytes_in, live_next_number, is_open_of, may_take, first_chunk, live_adds_to, live_adds, live_adds_all, live_looks, live_enters, live_is_full, live_is_spent, live_refusal, live_closes, live_flushes, live_given_for, live_carries_more, live_takes, live_carried, live_settles, live_frees, live_next}
 use Rattle.fwd_base.specs.Tallies.{tally_more}
-use Rattle.fwd_chunks.specs.Soundness.{IsBefore, AreInOrder, IsWithin, IsSound}
+use Rattle.fwd_chunks.specs.Soundness.{IsBefore, AreInOrder, IsFresh, IsWithin, IsSound}
 use Rattle.fwd_chunks.proofs.Numbers.{not_from, eq_same}
 use Rattle.fwd_chunks.proofs.CellLemmas.{size_of-push}
 use Rattle.std.proofs.lemmas.Option.{same_Some}
@@ -210,6 +210,7 @@ pub record IsSorted (b : LiveBuffer) : Type 0 where
   pub in_order : AreInOrder b.chunks
   pub below : AllByRecursion (λ c. c.number < live_next_number b) b.chunks
   pub within : AllByRecursion (IsWithin b.setting.limits.chunk) b.chunks
+  pub fresh : AllByRecursion IsFresh b.chunks
   pub counted : b.accepted ≡ b.settled + held_in b.chunks
 
 abbrev pub with_entry : List ℕ → Chunk → Chunk
@@ -245,6 +246,7 @@ module _ (b : LiveBuffer) (tag entry : List ℕ) (own : IsSorted b) where
     below = all-map (λ d. d.number < live_next_number b) (λ d. d.number < live_next_number b) (λ d. cond (is_at c.number d) (with_entry entry d) d) (λ d lt. subst (λ n. n < live_next_number b) (sym (number (is_at c.number d) d)) lt) b.chunks own.below;
     within = all-map (λ d. IsWithin b.setting.limits.chunk d × ((d.number == c.number) ≡ true → d ≡ c)) (IsWithin b.setting.limits.chunk) (λ d. cond (is_at c.number d) (with_entry entry d) d) (λ d is. within-more c e d is) b.chunks
         (all-both (IsWithin b.setting.limits.chunk) (λ d. (d.number == c.number) ≡ true → d ≡ c) b.chunks own.within (found-only (may_take b tag entry) b.chunks c own.in_order e));
+    fresh = all-map IsFresh IsFresh (λ d. cond (is_at c.number d) (with_entry entry d) d) (λ d is. fresh (is_at c.number d) d is) b.chunks own.fresh;
     counted = omega (
       arith,
       own.counted,
@@ -267,6 +269,10 @@ module _ (b : LiveBuffer) (tag entry : List ℕ) (own : IsSorted b) where
           → is_open (cond t (with_entry entry d) d).stage ≡ false
       shut true d s = s
       shut false d s = s
+
+      fresh : (t : Bool) (d : Chunk) → IsFresh d → IsFresh (cond t (with_entry entry d) d)
+      fresh true d is = is
+      fresh false d is = is
 
   abbrev pub closing_one : Chunk → Chunk
   closing_one d = cond (is_open_of tag d) (staged Closed d) d
@@ -299,6 +305,13 @@ module _ (b : LiveBuffer) (tag entry : List ℕ) (own : IsSorted b) where
       by true = refl
       by false = s
 
+  closed-fresh : (d : Chunk) → IsFresh d → IsFresh (closing_one d)
+  closed-fresh d is = by (is_open_of tag d)
+    where
+      by : (t : Bool) → IsFresh (cond t (staged Closed d) d)
+      by true = λ e. absurd cc
+      by false = is
+
   closed-first : (d : Chunk) → bytes_eq d.tag tag ≡ true → is_open (closing_one d).stage ≡ false
   closed-first d e = by (is_open d.stage) refl
     where
@@ -317,6 +330,7 @@ module _ (b : LiveBuffer) (tag entry : List ℕ) (own : IsSorted b) where
     within = all-push (IsWithin b.setting.limits.chunk) (map closing_one b.chunks) (first_chunk b tag entry)
         (all-map (IsWithin b.setting.limits.chunk) (IsWithin b.setting.limits.chunk) closing_one (λ d is. keeps (closing_one d) d (closed-entries d) is) b.chunks own.within)
         (record { some = omega arith; within = one (nat_le (length entry + 0) b.setting.limits.chunk) });
+    fresh = all-push IsFresh (map closing_one b.chunks) (first_chunk b tag entry) (all-map IsFresh IsFresh closing_one closed-fresh b.chunks own.fresh) (λ e. refl);
     counted = omega (
       arith,
       own.counted,
@@ -391,7 +405,7 @@ adds_all-added (entry ∷ entries) b tag own =
     record { sorted = rest.sorted; bytes = omega (arith, rest.bytes, adds-bytes b tag entry own); setting = rest.setting ∙ adds-setting b tag entry }
 
 pub sorted : (b : LiveBuffer) (now : ℕ) → IsSound b → IsSorted (live_looks b now)
-sorted b now own = record { in_order = own.in_order; below = own.below; within = own.within; counted = own.counted }
+sorted b now own = record { in_order = own.in_order; below = own.below; within = own.within; fresh = own.fresh; counted = own.counted }
 
 -- a request that is not refused
 pub enters-sound : (b : LiveBuffer) (r : Request) (now : ℕ) → IsSound b
@@ -406,6 +420,7 @@ enters-sound b r now own e =
       in_order = is.sorted.in_order;
       below = is.sorted.below;
       within = is.sorted.within;
+      fresh = is.sorted.fresh;
       total = omega (arith, is.bytes, ap (λ s. s.limits.total) is.setting, fits);
       counted = is.sorted.counted;
       accepted = leb-false (2 ^ 64) after.accepted unspent.1;
@@ -430,15 +445,17 @@ enters-sound b r now own e =
 pub restaged-sound : (b : LiveBuffer) (f : Chunk → Chunk) (moment : ℕ)
     → ((c : Chunk) → (f c).number ≡ c.number) → ((c : Chunk) → (f c).tag ≡ c.tag)
     → ((c : Chunk) → (f c).entries ≡ c.entries)
-    → ((c : Chunk) → is_open c.stage ≡ false → is_open (f c).stage ≡ false) → IsSound b
+    → ((c : Chunk) → is_open c.stage ≡ false → is_open (f c).stage ≡ false)
+    → ((c : Chunk) → IsFresh c → IsFresh (f c)) → IsSound b
     → IsSound (record b { chunks = map f b.chunks; moment = moment })
-restaged-sound b f moment number tag entries shut own = record {
+restaged-sound b f moment number tag entries shut fresh own = record {
   in_order = order-map f number tag shut b.chunks own.in_order;
   below = all-map (λ d. d.number < live_next_number b) (λ d. d.number < live_next_number b) f (λ d lt. subst (λ n. n < live_next_number b) (sym (number d)) lt) b.chunks own.below;
   within = all-map (IsWithin b.setting.limits.chunk) (IsWithin b.setting.limits.chunk) f (λ d is. record {
     some = subst (λ es. 0 < length es) (sym (entries d)) is.some;
     within = ap (λ es. nat_le (size_of es) b.setting.limits.chunk || (length es == 1)) (entries d) ∙ is.within;
   }) b.chunks own.within;
+  fresh = all-map IsFresh IsFresh f fresh b.chunks own.fresh;
   total = omega (arith, own.total, bytes-total b.chunks, bytes-total (map f b.chunks), total-map (λ d. size_of d.entries) f (λ d. ap size_of (entries d)) b.chunks);
   counted = omega (arith, own.counted, held-total b.chunks, held-total (map f b.chunks), total-map (λ d. length d.entries) f (λ d. ap length (entries d)) b.chunks);
   accepted = own.accepted;
@@ -452,7 +469,7 @@ pub changed-sound : (b : LiveBuffer) (test : Chunk → Bool) (f : Chunk → Chun
     → ((c : Chunk) → is_open (f c).stage ≡ false) → IsSound b
     → IsSound (record b { chunks = changed test f b.chunks; moment = moment })
 changed-sound b test f moment number tag entries shut own =
-    restaged-sound b (λ c. cond (test c) (f c) c) moment (λ c. numbers (test c) c) (λ c. tags (test c) c) (λ c. contents (test c) c) (λ c s. shuts (test c) c s) own
+    restaged-sound b (λ c. cond (test c) (f c) c) moment (λ c. numbers (test c) c) (λ c. tags (test c) c) (λ c. contents (test c) c) (λ c s. shuts (test c) c s) (λ c is. stays (test c) c is) own
   where
     numbers : (t : Bool) (c : Chunk) → (cond t (f c) c).number ≡ c.number
     numbers true c = number c
@@ -471,6 +488,13 @@ changed-sound b test f moment number tag entries shut own =
     shuts true c s = shut c
     shuts false c s = s
 
+    stays : (t : Bool) (c : Chunk) → IsFresh c → IsFresh (cond t (f c) c)
+    stays true c is = λ e. absurd (no (is_open (f c).stage) (shut c) e)
+      where
+        no : (b : Bool) → b ≡ false → b ≡ true → ⊥
+        no b g h = cc
+    stays false c is = is
+
 pub flushes-sound : (b : LiveBuffer) (now : ℕ) (kind : FlushKind) → IsSound b
     → IsSound (live_flushes b now kind)
 flushes-sound b now kind own = changed-sound b (live_closes (live_looks b now) kind) (staged Closed) (max b.moment now) (λ c. refl) (λ c. refl) (λ c. refl) (λ c. refl) own
@@ -480,6 +504,7 @@ looks-sound b now own = record {
   in_order = own.in_order;
   below = own.below;
   within = own.within;
+  fresh = own.fresh;
   total = own.total;
   counted = own.counted;
   accepted = own.accepted;
@@ -500,6 +525,7 @@ settles-sound b n own = record {
   in_order = order-filter (λ c. not (is_at n c)) b.chunks own.in_order;
   below = all-filter (λ c. c.number < live_next_number b) (λ c. not (is_at n c)) b.chunks own.below;
   within = all-filter (IsWithin b.setting.limits.chunk) (λ c. not (is_at n c)) b.chunks own.within;
+  fresh = all-filter IsFresh (λ c. not (is_at n c)) b.chunks own.fresh;
   total = omega (arith, own.total, bytes-total b.chunks, bytes-total (filter (λ c. not (is_at n c)) b.chunks), total-filter (λ c. size_of c.entries) (is_at n) b.chunks);
   counted = omega (arith, own.counted, held-total b.chunks, held-total (filter (is_at n) b.chunks), held-total (filter (λ c. not (is_at n c)) b.chunks), total-filter (λ c. length c.entries) (is_at n) b.chunks);
   accepted = own.accepted;
@@ -514,7 +540,7 @@ frees-sound b n (Some now) own =
 
 pub opening-sound : (setting : BufferSetting) → setting.limits.first < 2 ^ 64
     → IsSound (live_opening setting)
-opening-sound setting fits = record { in_order = tt; below = tt; within = tt; total = omega arith; counted = refl; accepted = omega arith; numbers = omega (arith, fits) }
+opening-sound setting fits = record { in_order = tt; below = tt; within = tt; fresh = tt; total = omega arith; counted = refl; accepted = omega arith; numbers = omega (arith, fits) }
 
 pub next-sound : (b : LiveBuffer) (event : BufferEvent) → IsSound b
     → IsSound (live_next b event)

@@ -226,6 +226,10 @@ is_due Due interval moment c = is_open c.stage && nat_le (c.since + interval) mo
 abbrev pub live_closes : LiveBuffer → FlushKind → Chunk → Bool
 live_closes b kind c = is_due kind b.setting.limits.interval b.moment c
 
+-- the first of the chunks that a flush at a moment closes, if it closes any
+abbrev pub live_first_closing : LiveBuffer → ℕ → FlushKind → Option Chunk
+live_first_closing b now kind = find (live_closes (live_looks b now) kind) b.chunks
+
 -- the chunks that a flush closes
 abbrev pub live_closing : LiveBuffer → ℕ → FlushKind → List Chunk
 live_closing b now kind = filter (live_closes (live_looks b now) kind) b.chunks

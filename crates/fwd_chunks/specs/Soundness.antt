@@ -15,6 +15,7 @@ use Rattle.std.specs.Prelude.{
   [],
   ◌∷◌,
   length,
+  None,
 }
 use Rattle.std.specs.List.{AllByRecursion}
 use Rattle.std.specs.Str.{bytes_eq}
@@ -38,12 +39,17 @@ pub record IsWithin (limit : ℕ) (c : Chunk) : Type 0 where
   pub some : 0 < length c.entries
   pub within : (nat_le (size_of c.entries) limit || (length c.entries == 1)) ≡ true
 
+-- an open chunk was never lost
+abbrev pub IsFresh : Chunk → Type 0
+IsFresh c = is_open c.stage ≡ true → c.losses ≡ None
+
 -- what is true of every live buffer
 pub record IsSound (b : LiveBuffer) : Type 0 where
   pub in_order : AreInOrder b.chunks
   -- no number is above the greatest
   pub below : AllByRecursion (λ c. c.number < live_next_number b) b.chunks
   pub within : AllByRecursion (IsWithin b.setting.limits.chunk) b.chunks
+  pub fresh : AllByRecursion IsFresh b.chunks
   pub total : bytes_in b.chunks ≤ b.setting.limits.total
   -- accepted = settled + held
   pub counted : b.accepted ≡ b.settled + held_in b.chunks

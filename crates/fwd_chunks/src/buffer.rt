@@ -43,6 +43,7 @@ ghost use Rattle.fwd_chunks.specs.Live.{
   changed,
   staged,
   live_closing,
+  live_first_closing,
   live_flushes,
   live_given,
   live_given_for,
@@ -412,6 +413,15 @@ impl Buffer {
     {
         self.moment = self.moment.max(now);
         self.index.flush(kind, self.limits.interval, self.moment)
+    }
+
+    /// The number of the first open chunk that a flush at a moment (milliseconds) closes, if it closes
+    /// any. It stays open, and the greatest moment stays as it was.
+    pub fn first_closing(&self, now: u64, kind: FlushKind) -> Option<u64>
+        ensures { result ≡ option_map (λ c. c.number) (live_first_closing self.now now kind) }
+    {
+        self.index
+            .first_closing(kind, self.limits.interval, self.moment.max(now))
     }
 
     /// What a worker has of the chunk, which lies at the key.

@@ -312,6 +312,29 @@ impl ChunkIndex {
         count
     }
 
+    /// The number alone of the first open chunk that began at the moment or before.
+    fn first_from(&self, moment: u64) -> Option<u64>
+        ensures { result ≡ option_map (λ c. c.number) (find (began_by moment) self.now.chunks) }
+    {
+        let (number, _) = self.first_due(moment)?;
+        Some(number)
+    }
+
+    /// The number of the first chunk that a flush at a moment closes, if it closes any.
+    pub(crate) fn first_closing(&self, kind: FlushKind, interval: u64, moment: u64) -> Option<u64>
+        ensures { result ≡ option_map (λ c. c.number)
+            (find (is_due kind interval moment) self.now.chunks) }
+    {
+        self.is_ordered(); // for the proof
+        match kind {
+            FlushKind::All => self.first_from(u64::MAX),
+            FlushKind::Due => match moment.checked_sub(interval) {
+                None => None,
+                Some(from) => self.first_from(from),
+            },
+        }
+    }
+
     /// Closes what a flush at a moment closes, and answers how many chunks that are.
     pub(crate) fn flush(&mut self, kind: FlushKind, interval: u64, moment: u64) -> usize
         ensures count { result ≡ length (filter (is_due kind interval moment) self.old.chunks) }

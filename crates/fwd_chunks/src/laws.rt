@@ -21,6 +21,7 @@ ghost use Rattle.fwd_modes.specs.Requests.{Request};
 ghost use Rattle.fwd_modes.specs.declared.origin.Origin.{Origin};
 ghost use Rattle.fwd_chunks.specs.declared.chunk.Chunk.{Chunk};
 ghost use Rattle.fwd_chunks.specs.declared.flush.FlushKind.{FlushKind};
+ghost use Rattle.fwd_chunks.specs.declared.chunk_state.ChunkState.TheVariants.{Closed};
 ghost use Rattle.fwd_chunks.specs.declared.wanted.Wanted.{Wanted};
 ghost use Rattle.fwd_chunks.specs.Cells.{is_carried};
 ghost use Rattle.fwd_chunks.specs.declared.span.Span.{Span};
@@ -59,6 +60,7 @@ ghost use Rattle.fwd_chunks.specs.Live.{
   live_enters,
   live_spans,
   live_closing,
+  live_first_closing,
   live_flushes,
   live_given,
   live_given_for,
@@ -68,6 +70,7 @@ ghost use Rattle.fwd_chunks.specs.Live.{
   live_settles,
   live_frees,
   live_counts,
+  staged,
 };
 ghost use Rattle.fwd_chunks.specs.TagCounts.{
   Tagged,
@@ -152,6 +155,15 @@ pub fn live_given_is_wanted()
     ensures only { (b : LiveBuffer) (wanted : Wanted) (now : ℕ) (answer : Option Chunk) →
         IsSound b → IsLeastWanted (live_looks b now) wanted answer →
         answer ≡ live_given_for (live_looks b now) wanted }
+{}
+
+/// If no chunk is free that a worker wants, and a flush closes some, the worker is given the first of
+/// these: chunks that are closed for a worker are closed for one that takes one of them.
+pub fn closed_is_given()
+    ensures { (b : LiveBuffer) (wanted : Wanted) (now : ℕ) (kind : FlushKind) → IsSound b →
+        live_given_for (live_looks b now) wanted ≡ None →
+        live_given_for (live_looks (live_flushes b now kind) now) wanted
+        ≡ option_map (staged Closed) (live_first_closing b now kind) }
 {}
 
 /// Every live buffer that a run reaches is sound.

@@ -43,7 +43,7 @@ pub use flush::FlushKind;
 pub use free_chunk::FreeChunk;
 pub use fwd_base::{Counts, Report, TagCount};
 pub use laws::{
-    given_is_least, held_stays, live_answers, live_follows, live_given_is_least,
+    closed_is_given, given_is_least, held_stays, live_answers, live_follows, live_given_is_least,
     live_given_is_wanted, numbers_rise, reached_is_sound, spans_are_held, tags_add_up,
 };
 pub use limits::BufferLimits;

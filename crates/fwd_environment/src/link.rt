@@ -18,7 +18,7 @@ ghost use Rattle.fwd_environment.specs.Links.{Call, DidWrite, HasOffered, count_
 
 use crate::denial::Denial;
 use crate::refused::Refused;
-use fwd_chunks::WriteSlices;
+use fwd_chunks::{FlushKind, WriteSlices};
 use fwd_session::SessionFault;
 use std::sync::Wait;
 
@@ -169,11 +169,11 @@ pub trait Gate {
     /// counted from 0. It may wait.
     fn pass<R: Wait>(&mut self, rt: &R, worker: u16, place: Place, turn: u64) -> Pass;
 
-    /// For how long the worker of this number leaves chunks open that are due, where it looks for
-    /// one, in milliseconds: more entries may join them. Where nothing else is said it leaves none
-    /// open.
-    fn leaves_open(&self, _worker: u16) -> u64 {
-        0
+    /// Which open chunks may be closed for the worker of this number, if it looks for a chunk and
+    /// none is free: those that are due, or all, which are then sent before they are due. If
+    /// nothing else is said it is those that are due.
+    fn closes(&self, _worker: u16) -> FlushKind {
+        FlushKind::Due
     }
 
     /// The worker of this number tells what its turn came to.

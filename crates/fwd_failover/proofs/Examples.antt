@@ -90,10 +90,39 @@ fifth_worker = refl
 
 -- ---- what is kept
 
+-- waits of 1 ms, so that each loss counts
+abbrev short : ServersSetting
+short = record { standby = false ∷ false ∷ []; retry_wait = 1; retry_max = 1 }
+
 since_it_settled :
-    losses_of 0 (Lost 0 7 ∷ Lost 1 6 ∷ Lost 0 5 ∷ Settled 0 ∷ Lost 0 3 ∷ [])
+    losses_of short 0 (Lost 0 7 ∷ Lost 1 6 ∷ Lost 0 5 ∷ Settled 0 ∷ Lost 0 3 ∷ [])
     ≡ 7 ∷ 5 ∷ []
+unfolding wait_after
 since_it_settled = refl
+
+-- ---- losses that count
+
+-- eight sessions end in one outage: one loss, and a wait of 500 ms
+one_outage :
+    losses_of pair 0
+    (Lost 0 1009 ∷ Lost 0 1003 ∷ Lost 0 1002 ∷ Lost 0 1001 ∷ Lost 0 1000 ∷ Lost 0 1000 ∷ [])
+    ≡ 1000 ∷ []
+unfolding wait_after
+one_outage = refl
+
+-- it is lost again once it may be tried: 500 ms later, and then 1,000 ms
+lost_again :
+    losses_of pair 0 (Lost 0 2499 ∷ Lost 0 1500 ∷ Lost 0 1499 ∷ Lost 0 1000 ∷ [])
+    ≡ 1500 ∷ 1000 ∷ []
+unfolding wait_after
+lost_again = refl
+
+-- a settling during the wait ends it: the next loss is a first one
+lost_anew :
+    losses_of pair 0 (Lost 0 1003 ∷ Settled 0 ∷ Lost 0 1001 ∷ Lost 0 1000 ∷ [])
+    ≡ 1003 ∷ []
+unfolding wait_after
+lost_anew = refl
 
 kept : live_servers pair both
     ≡ record {

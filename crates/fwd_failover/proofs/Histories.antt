@@ -11,11 +11,6 @@ pub looked_on : (s : ServersSetting) (h : ServersHistory) (old new : LiveServers
     → new ≡ live_servers s (looked h now)
 looked_on s h old new now step shows = step ∙ ap (λ l. live_looked l now) shows ∙ sym (live-looked s h now)
 
-pub lost_on : (s : ServersSetting) (h : ServersHistory) (old new : LiveServers) (server now : ℕ)
-    → new ≡ live_lost old server now → old ≡ live_servers s h
-    → new ≡ live_servers s (lost s h server now)
-lost_on s h old new server now step shows = step ∙ ap (λ l. live_lost l server now) shows ∙ sym (live-lost s h server now)
-
 pub settled_on : (s : ServersSetting) (h : ServersHistory) (old new : LiveServers) (server : ℕ)
     → new ≡ live_settled old server → old ≡ live_servers s h
     → new ≡ live_servers s (settled s h server)
@@ -31,6 +26,13 @@ kept_max : (s : ServersSetting) (h : ServersHistory)
     → (live_servers s h).retry_max ≡ s.retry_max
 unfolding live_servers
 kept_max s h = refl
+
+pub lost_on : (s : ServersSetting) (h : ServersHistory) (old new : LiveServers) (server now : ℕ)
+    → old.retry_max < 2 ^ 64 → new ≡ live_lost old server now → old ≡ live_servers s h
+    → new ≡ live_servers s (lost s h server now)
+lost_on s h old new server now fits step shows =
+    let limit : s.retry_max < 2 ^ 64 = omega (arith, ap (λ (l : LiveServers). l.retry_max) shows, kept_max s h) in
+    step ∙ ap (λ l. live_lost l server now) shows ∙ sym (live-lost s h server now limit)
 
 pub chosen_by :
     (s : ServersSetting) (h : ServersHistory) (old : LiveServers) (worker now : ℕ)

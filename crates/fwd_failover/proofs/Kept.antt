@@ -1,16 +1,17 @@
 -- What is kept of a history says the same as the history, and goes on as it does.
-use Rattle.std.proofs.Common.{◌≡◌, ℕ, ◌+◌, ◌<◌, ◌≢◌, Bool, true, false, List, [], ◌∷◌, length, min, max, Some, None, refl, sym, ap, ◌∙◌, inl, inr, zero-add, arith}
+use Rattle.std.proofs.Common.{◌≡◌, ℕ, ◌+◌, ◌^◌, ◌<◌, ◌≢◌, Bool, true, false, List, [], ◌∷◌, length, min, max, Some, None, refl, sym, ap, ◌∙◌, inl, inr, zero-add, arith}
 use Rattle.std.proofs.Math.ListN.{get_or, set, replicate}
-use Rattle.std.specs.Prelude.{map, nat_lt, ◌==◌, if◌then◌else◌}
+use Rattle.std.specs.Prelude.{map, nat_le, nat_lt, ◌==◌, if◌then◌else◌}
 use Rattle.std.specs.List.{enumerate_from}
 use Rattle.std.proofs.lemmas.Bool.{cases_eq, ltb-true}
 use Rattle.std.proofs.lemmas.Bool.Decides.{nat_tests}
 use Rattle.std.proofs.lemmas.List.{same_lists, get_or-map, length-map, length-set, get_or-set_same, get_or-set_other}
 use Rattle.std.proofs.lemmas.List.FromFn.{length-enumerate_from, get_or-enumerate_from}
-use Rattle.fwd_failover.specs.History.{ServersSetting, Happening, Lost, Settled, ServersHistory, opening, looked, lost, settled, losses_of}
+use Rattle.fwd_failover.specs.History.{ServersSetting, Happening, Lost, Settled, ServersHistory, opening, looked, lost, settled, is_over, with_loss, losses_of}
 use Rattle.fwd_failover.specs.Choices.{primaries, standbys}
-use Rattle.fwd_failover.specs.Live.{LiveServers, live_servers, with_losses, live_looked, live_lost, live_settled}
-use Rattle.fwd_base.specs.Tallies.{tally_of, tally_more}
+use Rattle.fwd_failover.specs.Live.{LiveServers, live_servers, with_losses, live_with_loss, live_looked, live_lost, live_settled}
+use Rattle.fwd_base.specs.Tallies.{tally_of, tally_more, live_is_over}
+use Rattle.fwd_base.proofs.Doublings.{wait_settles}
 
 -- ---- a list with something for each server
 
@@ -59,34 +60,56 @@ tally_of-more moment (l ∷ ls) =
     let count : min 65 (length (moment ∷ l ∷ ls)) ≡ min 65 (min 65 (length (l ∷ ls)) + 1) = omega arith in
     ap (λ n. Some (record { count = n; last = moment })) count
 
-lost_here : (server moment : ℕ) (before : List Happening)
-    → tally_of (losses_of server (Lost server moment ∷ before))
-    ≡ Some (tally_more (tally_of (losses_of server before)) moment)
-lost_here server moment before =
-    ap (λ b. tally_of (if b then moment ∷ losses_of server before else losses_of server before)) (same server)
-    ∙ tally_of-more moment (losses_of server before)
+pub over_kept : (s : ServersSetting) (ls : List ℕ) (moment : ℕ) → s.retry_max < 2 ^ 64
+    → is_over s ls moment ≡ live_is_over s.retry_wait s.retry_max (tally_of ls) moment
+over_kept s [] moment fits = refl
+over_kept s (newest ∷ older) moment fits =
+    ap (λ wait. nat_le (newest + wait) moment) (sym (wait_settles s.retry_wait s.retry_max (length (newest ∷ older)) fits))
 
-lost_elsewhere : (server k moment : ℕ) (before : List Happening) → k ≢ server
-    → tally_of (losses_of k (Lost server moment ∷ before)) ≡ tally_of (losses_of k before)
-lost_elsewhere server k moment before ne =
-    ap (λ b. tally_of (if b then moment ∷ losses_of k before else losses_of k before)) (other server k ne)
+one_more_if : (b : Bool) (ls : List ℕ) (moment : ℕ)
+    → tally_of (if b then moment ∷ ls else ls)
+    ≡ (if b then Some (tally_more (tally_of ls) moment) else tally_of ls)
+one_more_if true ls moment = tally_of-more moment ls
+one_more_if false ls moment = refl
 
-settled_here : (server : ℕ) (before : List Happening)
-    → tally_of (losses_of server (Settled server ∷ before)) ≡ None
-settled_here server before = ap (λ b. tally_of (if b then [] else losses_of server before)) (same server)
+with_loss_kept : (s : ServersSetting) (ls : List ℕ) (moment : ℕ) → s.retry_max < 2 ^ 64
+    → tally_of (with_loss s ls moment)
+    ≡ live_with_loss s.retry_wait s.retry_max (tally_of ls) moment
+with_loss_kept s ls moment fits =
+    one_more_if (is_over s ls moment) ls moment
+    ∙ ap (λ b. if b then Some (tally_more (tally_of ls) moment) else tally_of ls) (over_kept s ls moment fits)
 
-settled_elsewhere : (server k : ℕ) (before : List Happening) → k ≢ server
-    → tally_of (losses_of k (Settled server ∷ before)) ≡ tally_of (losses_of k before)
-settled_elsewhere server k before ne = ap (λ b. tally_of (if b then [] else losses_of k before)) (other server k ne)
+lost_here : (s : ServersSetting) (server moment : ℕ) (before : List Happening)
+    → s.retry_max < 2 ^ 64
+    → tally_of (losses_of s server (Lost server moment ∷ before))
+    ≡ live_with_loss s.retry_wait s.retry_max (tally_of (losses_of s server before)) moment
+lost_here s server moment before fits =
+    ap (λ b. tally_of (if b then with_loss s (losses_of s server before) moment else losses_of s server before)) (same server)
+    ∙ with_loss_kept s (losses_of s server before) moment fits
+
+lost_elsewhere : (s : ServersSetting) (server k moment : ℕ) (before : List Happening)
+    → k ≢ server
+    → tally_of (losses_of s k (Lost server moment ∷ before))
+    ≡ tally_of (losses_of s k before)
+lost_elsewhere s server k moment before ne =
+    ap (λ b. tally_of (if b then with_loss s (losses_of s k before) moment else losses_of s k before)) (other server k ne)
+
+settled_here : (s : ServersSetting) (server : ℕ) (before : List Happening)
+    → tally_of (losses_of s server (Settled server ∷ before)) ≡ None
+settled_here s server before = ap (λ b. tally_of (if b then [] else losses_of s server before)) (same server)
+
+settled_elsewhere : (s : ServersSetting) (server k : ℕ) (before : List Happening) → k ≢ server
+    → tally_of (losses_of s k (Settled server ∷ before)) ≡ tally_of (losses_of s k before)
+settled_elsewhere s server k before ne = ap (λ b. tally_of (if b then [] else losses_of s k before)) (other server k ne)
 
 -- ---- the live part of what comes next
 
 -- no server was lost before anything happened
-none_lost : (k : ℕ) (flags : List Bool)
-    → map (λ p. tally_of (losses_of p.0 [])) (enumerate_from k flags)
+none_lost : (s : ServersSetting) (k : ℕ) (flags : List Bool)
+    → map (λ p. tally_of (losses_of s p.0 [])) (enumerate_from k flags)
     ≡ replicate (length flags) None
-none_lost k [] = refl
-none_lost k (b ∷ flags) = ap (λ ts. None ∷ ts) (none_lost (k + 1) flags)
+none_lost s k [] = refl
+none_lost s k (b ∷ flags) = ap (λ ts. None ∷ ts) (none_lost s (k + 1) flags)
 
 pub live-opening : (s : ServersSetting)
     → live_servers s opening
@@ -99,7 +122,7 @@ pub live-opening : (s : ServersSetting)
       moment = 0;
     }
 unfolding live_servers
-live-opening s = ap (λ ls. with_losses (live_servers s opening) ls 0) (none_lost 0 s.standby)
+live-opening s = ap (λ ls. with_losses (live_servers s opening) ls 0) (none_lost s 0 s.standby)
 
 pub live-looked : (s : ServersSetting) (h : ServersHistory) (now : ℕ)
     → live_servers s (looked h now) ≡ live_looked (live_servers s h) now
@@ -110,31 +133,32 @@ live-looked s h now = refl
 place_of : (s : ServersSetting) (h : ServersHistory) (server : ℕ)
     → length (live_servers s h).losses ≡ length s.standby
 unfolding live_servers
-place_of s h server = length-each (λ k. tally_of (losses_of k h.happened)) s.standby
+place_of s h server = length-each (λ k. tally_of (losses_of s k h.happened)) s.standby
 
 pub kept_at : (s : ServersSetting) (h : ServersHistory) (server : ℕ) → server < length s.standby
-    → get_or (live_servers s h).losses server None ≡ tally_of (losses_of server h.happened)
+    → get_or (live_servers s h).losses server None ≡ tally_of (losses_of s server h.happened)
 unfolding live_servers
-kept_at s h server lt = get_or-each (λ k. tally_of (losses_of k h.happened)) s.standby server None lt
+kept_at s h server lt = get_or-each (λ k. tally_of (losses_of s k h.happened)) s.standby server None lt
 
 live-lost_known : (s : ServersSetting) (h : ServersHistory) (server now : ℕ)
-    → server < length s.standby
+    → s.retry_max < 2 ^ 64 → server < length s.standby
     → live_servers s (record {
       happened = Lost server (max h.moment now) ∷ h.happened;
       moment = max h.moment now;
     })
     ≡ with_losses (live_servers s h)
     (set (live_servers s h).losses server
-    (Some (tally_more (get_or (live_servers s h).losses server None) (max h.moment now))))
+    (live_with_loss s.retry_wait s.retry_max (get_or (live_servers s h).losses server None)
+    (max h.moment now)))
     (max h.moment now)
 unfolding live_servers
-live-lost_known s h server now lt =
+live-lost_known s h server now fits lt =
     let moment = max h.moment now in
-    let more = Some (tally_more (get_or (live_servers s h).losses server None) moment) in
-    let here : tally_of (losses_of server (Lost server moment ∷ h.happened)) ≡ more =
-    lost_here server moment h.happened ∙ ap (λ t. Some (tally_more t moment)) (sym (kept_at s h server lt)) in
+    let more = live_with_loss s.retry_wait s.retry_max (get_or (live_servers s h).losses server None) moment in
+    let here : tally_of (losses_of s server (Lost server moment ∷ h.happened)) ≡ more =
+    lost_here s server moment h.happened fits ∙ ap (λ t. live_with_loss s.retry_wait s.retry_max t moment) (sym (kept_at s h server lt)) in
     ap (λ ls. with_losses (live_servers s h) ls moment)
-    (each_changed (λ k. tally_of (losses_of k h.happened)) (λ k. tally_of (losses_of k (Lost server moment ∷ h.happened))) s.standby server more lt here (λ k ne. lost_elsewhere server k moment h.happened ne))
+    (each_changed (λ k. tally_of (losses_of s k h.happened)) (λ k. tally_of (losses_of s k (Lost server moment ∷ h.happened))) s.standby server more lt here (λ k ne. lost_elsewhere s server k moment h.happened ne))
 
 live-settled_known : (s : ServersSetting) (h : ServersHistory) (server : ℕ)
     → server < length s.standby
@@ -143,7 +167,7 @@ live-settled_known : (s : ServersSetting) (h : ServersHistory) (server : ℕ)
 unfolding live_servers
 live-settled_known s h server lt =
     ap (λ ls. with_losses (live_servers s h) ls h.moment)
-    (each_changed (λ k. tally_of (losses_of k h.happened)) (λ k. tally_of (losses_of k (Settled server ∷ h.happened))) s.standby server None lt (settled_here server h.happened) (λ k ne. settled_elsewhere server k h.happened ne))
+    (each_changed (λ k. tally_of (losses_of s k h.happened)) (λ k. tally_of (losses_of s k (Settled server ∷ h.happened))) s.standby server None lt (settled_here s server h.happened) (λ k ne. settled_elsewhere s server k h.happened ne))
 
 -- the two sides of a choice
 on_known : (b : Bool) (s : ServersSetting) (h k : ServersHistory) (l : LiveServers)
@@ -157,12 +181,14 @@ known_there : (s : ServersSetting) (h : ServersHistory) (server : ℕ)
 known_there s h server = ap (nat_lt server) (sym (place_of s h server))
 
 pub live-lost : (s : ServersSetting) (h : ServersHistory) (server now : ℕ)
+    → s.retry_max < 2 ^ 64
     → live_servers s (lost s h server now) ≡ live_lost (live_servers s h) server now
 unfolding live_servers
-live-lost s h server now =
-    let l = with_losses (live_servers s h) (set (live_servers s h).losses server (Some (tally_more (get_or (live_servers s h).losses server None) (max (live_servers s h).moment now)))) (max (live_servers s h).moment now) in
-    on_known (nat_lt server (length s.standby)) s h (record { happened = Lost server (max h.moment now) ∷ h.happened; moment = max h.moment now }) l (λ e. live-lost_known s h server now (ltb-true _ _ e))
-    ∙ ap (λ b. if b then l else live_servers s h) (known_there s h server)
+live-lost s h server now fits =
+    let live = live_servers s h in
+    let l = with_losses live (set live.losses server (live_with_loss s.retry_wait s.retry_max (get_or live.losses server None) (max live.moment now))) (max live.moment now) in
+    on_known (nat_lt server (length s.standby)) s h (record { happened = Lost server (max h.moment now) ∷ h.happened; moment = max h.moment now }) l (λ e. live-lost_known s h server now fits (ltb-true _ _ e))
+    ∙ ap (λ b. if b then l else live) (known_there s h server)
 
 pub live-settled : (s : ServersSetting) (h : ServersHistory) (server : ℕ)
     → live_servers s (settled s h server) ≡ live_settled (live_servers s h) server

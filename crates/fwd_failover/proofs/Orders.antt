@@ -8,11 +8,10 @@ use Rattle.std.specs.List.{All, AllByRecursion, enumerate_from}
 use Rattle.std.proofs.lemmas.List.FromFn.{length-enumerate_from, get_or-enumerate_from}
 use Rattle.std.proofs.lemmas.List.Elements.{All-append, All-take, All-drop, All-filter, All-map, recursion_from_All}
 use Rattle.fwd_failover.specs.History.{ServersSetting, ServersHistory, losses_of}
-use Rattle.fwd_failover.specs.Choices.{places, primaries, standbys, round_from, order_of, is_over, is_usable, choice}
+use Rattle.fwd_failover.specs.Choices.{places, primaries, standbys, round_from, order_of, is_usable, choice}
 use Rattle.fwd_failover.specs.Live.{LiveServers, live_servers, is_live_usable, live_choice}
 use Rattle.fwd_base.specs.Tallies.{tally_of, live_is_over}
-use Rattle.fwd_base.proofs.Doublings.{wait_settles}
-use Rattle.fwd_failover.proofs.Kept.{kept_at}
+use Rattle.fwd_failover.proofs.Kept.{kept_at, over_kept}
 
 -- ---- the numbers in an order are those of servers
 
@@ -62,18 +61,12 @@ choice_within n l worker moment one two =
 
 -- ---- what is kept of a server's losses is enough
 
-over_kept : (s : ServersSetting) (ls : List ℕ) (moment : ℕ) → s.retry_max < 2 ^ 64
-    → is_over s ls moment ≡ live_is_over s.retry_wait s.retry_max (tally_of ls) moment
-over_kept s [] moment fits = refl
-over_kept s (newest ∷ older) moment fits =
-    ap (λ wait. nat_le (newest + wait) moment) (sym (wait_settles s.retry_wait s.retry_max (length (newest ∷ older)) fits))
-
 usable_kept : (s : ServersSetting) (h : ServersHistory) (moment server : ℕ)
     → s.retry_max < 2 ^ 64 → server < length s.standby
     → is_usable s h.happened moment server ≡ is_live_usable (live_servers s h) moment server
 unfolding live_servers
 usable_kept s h moment server fits lt =
-    over_kept s (losses_of server h.happened) moment fits
+    over_kept s (losses_of s server h.happened) moment fits
     ∙ ap (λ t. live_is_over s.retry_wait s.retry_max t moment) (sym (kept_at s h server lt))
 
 pub choice_kept : (s : ServersSetting) (h : ServersHistory) (worker moment : ℕ)

@@ -1,9 +1,8 @@
 -- Which server a worker tries.
-use Rattle.std.specs.Prelude.{ℕ, ◌+◌, ◌%◌, List, [], ◌∷◌, ◌++◌, length, map, filter, find, take, drop, Bool, true, false, nat_le, Option}
+use Rattle.std.specs.Prelude.{ℕ, ◌%◌, List, ◌++◌, length, map, filter, find, take, drop, Bool, true, false, Option}
 use Rattle.std.specs.List.{enumerate_from}
 use Rattle.std.specs.Bool.{beq}
-use Rattle.fwd_base.specs.Waits.{wait_after}
-use Rattle.fwd_failover.specs.History.{ServersSetting, Happening, losses_of}
+use Rattle.fwd_failover.specs.History.{ServersSetting, Happening, is_over, losses_of}
 
 -- ---- the order in which a worker tries them
 
@@ -30,16 +29,9 @@ order_of first second worker = round_from (worker % length first) first ++ secon
 
 -- ---- the choice
 
--- a server with these losses, the newest first, may be tried at
--- a moment: it has none, or its wait after the newest is over
-abbrev pub is_over : ServersSetting → List ℕ → ℕ → Bool
-is_over s [] moment = true
-is_over s (newest ∷ older) moment =
-    nat_le (newest + wait_after s.retry_wait s.retry_max (length (newest ∷ older))) moment
-
--- a server may be tried at a moment, by what was lost at it since it last settled
+-- a server may be tried at a moment, by its losses that count since it last settled
 abbrev pub is_usable : ServersSetting → List Happening → ℕ → ℕ → Bool
-is_usable s happened moment server = is_over s (losses_of server happened) moment
+is_usable s happened moment server = is_over s (losses_of s server happened) moment
 
 -- the first in the worker's order that is usable, if there is one
 abbrev pub choice : ServersSetting → List Happening → ℕ → ℕ → Option ℕ

@@ -1,5 +1,6 @@
 -- The history of an output's servers: every loss and every settling so far, with nothing removed.
-use Rattle.std.specs.Prelude.{ℕ, List, [], ◌∷◌, length, Bool, nat_lt, ◌==◌, max, if◌then◌else◌}
+use Rattle.std.specs.Prelude.{ℕ, ◌+◌, List, [], ◌∷◌, length, Bool, true, nat_le, nat_lt, ◌==◌, max, if◌then◌else◌}
+use Rattle.fwd_base.specs.Waits.{wait_after}
 
 -- what the servers are set to: which are standbys, in file
 -- order, and the two limits of the waits in milliseconds
@@ -51,10 +52,24 @@ settled s h server =
 
 -- ---- what it says of a server
 
--- the moments at which a server was lost since it last settled a chunk, the newest first
-abbrev pub losses_of : ℕ → List Happening → List ℕ
-losses_of server [] = []
-losses_of server (Lost other moment ∷ before) =
-    if other == server then moment ∷ losses_of server before else losses_of server before
-losses_of server (Settled other ∷ before) =
-    if other == server then [] else losses_of server before
+-- a server with these losses, the newest first, may be tried at
+-- a moment: it has none, or its wait after the newest is over
+abbrev pub is_over : ServersSetting → List ℕ → ℕ → Bool
+is_over s [] moment = true
+is_over s (newest ∷ older) moment =
+    nat_le (newest + wait_after s.retry_wait s.retry_max (length (newest ∷ older))) moment
+
+-- the losses of a server and one more at a moment, which counts only if the server might be tried
+-- then: several sessions that end in one outage are one loss
+abbrev pub with_loss : ServersSetting → (losses : List ℕ) → (moment : ℕ) → List ℕ
+with_loss s losses moment = if is_over s losses moment then moment ∷ losses else losses
+
+-- the moments of the losses of a server that count since it last settled a chunk, the newest first
+abbrev pub losses_of : ServersSetting → (server : ℕ) → List Happening → List ℕ
+losses_of s server [] = []
+losses_of s server (Lost other moment ∷ before) =
+    if other == server
+    then with_loss s (losses_of s server before) moment
+    else losses_of s server before
+losses_of s server (Settled other ∷ before) =
+    if other == server then [] else losses_of s server before

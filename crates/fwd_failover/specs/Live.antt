@@ -24,7 +24,7 @@ live_servers s h = record {
   standbys = standbys s;
   retry_wait = s.retry_wait;
   retry_max = s.retry_max;
-  losses = map (λ p. tally_of (losses_of p.0 h.happened)) (enumerate_from 0 s.standby);
+  losses = map (λ p. tally_of (losses_of s p.0 h.happened)) (enumerate_from 0 s.standby);
   moment = h.moment;
 }
 
@@ -50,13 +50,23 @@ with_losses l losses moment = record l { losses = losses; moment = moment }
 abbrev pub live_looked : LiveServers → ℕ → LiveServers
 live_looked l now = with_losses l l.losses (max l.moment now)
 
+-- the losses of a server and one more at a moment, which counts only if the server might be tried
+-- then
+abbrev pub live_with_loss : (retry_wait retry_max : ℕ) → (losses : Option Losses) → (moment : ℕ)
+    → Option Losses
+live_with_loss retry_wait retry_max losses moment =
+    if live_is_over retry_wait retry_max losses moment
+    then Some (tally_more losses moment)
+    else losses
+
 -- after a loss of a server at a moment; an unknown server changes nothing
 abbrev pub live_lost : LiveServers → ℕ → ℕ → LiveServers
 live_lost l server now =
     if nat_lt server (length l.losses)
     then with_losses l
     (slice_set l.losses server
-    (Some (tally_more (slice_index_or l.losses server None) (max l.moment now))))
+    (live_with_loss l.retry_wait l.retry_max (slice_index_or l.losses server None)
+    (max l.moment now)))
     (max l.moment now)
     else l
 

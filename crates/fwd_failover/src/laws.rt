@@ -46,6 +46,7 @@ pub fn live_follows()
     ensures looked { (s : ServersSetting) (h : ServersHistory) (now : ℕ)
         → live_servers s (looked h now) ≡ live_looked (live_servers s h) now }
     ensures lost { (s : ServersSetting) (h : ServersHistory) (server now : ℕ)
+        → s.retry_max < 2 ^ 64
         → live_servers s (lost s h server now) ≡ live_lost (live_servers s h) server now }
     ensures settled { (s : ServersSetting) (h : ServersHistory) (server : ℕ)
         → live_servers s (settled s h server) ≡ live_settled (live_servers s h) server }

@@ -8,4 +8,4 @@ mod laws;
 mod servers;
 
 pub use laws::{choice_by_live_part, choice_is_usable, live_follows, order_goes_round};
-pub use servers::Servers;
+pub use servers::{Servers, with_loss};

@@ -29,6 +29,7 @@ ghost use Rattle.fwd_failover.specs.Live.{
   live_looked,
   live_lost,
   live_settled,
+  live_with_loss,
   is_live_usable,
 };
 
@@ -80,6 +81,18 @@ fn numbers_of(alloc: Global, standby: &[bool], kind: bool) -> Result<Vec<u16>, A
         }
     }
     Ok(numbers)
+}
+
+/// The losses of a server and one more at a moment (milliseconds), which counts only if the server
+/// might be tried then.
+pub fn with_loss(retry: Retry, losses: Option<Losses>, moment: u64) -> Option<Losses>
+    ensures { result ≡ live_with_loss retry.wait retry.max losses moment }
+{
+    if retry.is_over(losses, moment) {
+        Some(Losses::more(losses, moment))
+    } else {
+        losses
+    }
 }
 
 impl Servers {
@@ -198,8 +211,9 @@ impl Servers {
             .or(self.first_usable(&self.standbys))
     }
 
-    /// A server was lost at a moment (milliseconds), and waits from then on. An unknown server
-    /// changes nothing.
+    /// A server was lost at a moment (milliseconds), and waits from then on. If it waits already,
+    /// after an earlier loss, nothing changes: the sessions that end in one outage of a server are
+    /// one loss. An unknown server changes nothing.
     pub fn failed(&mut self, server: u16, now: u64)
         ensures after { self.new ≡ live_lost self.old server now }
         ensures history { (s : ServersSetting) (h : ServersHistory)
@@ -210,7 +224,7 @@ impl Servers {
             return;
         };
         let moment = self.moment.max(now);
-        *losses = Some(Losses::more(*losses, moment));
+        *losses = with_loss(self.retry, *losses, moment);
         self.moment = moment;
     }
 

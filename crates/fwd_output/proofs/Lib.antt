@@ -10,3 +10,4 @@ pub mod Returning
 pub mod Settling
 pub mod Paging
 pub mod Knowing
+pub mod Looking

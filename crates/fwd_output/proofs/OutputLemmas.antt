@@ -1,5 +1,5 @@
 -- An output is the live part of a history that its own events reach, and stays so.
-use Rattle.std.proofs.Common.{◌≡◌, ℕ, zero, suc, Bool, true, false, cond, List, [], ◌∷◌, ◌++◌, Option, Some, None, refl, sym, ap, subst, ◌∙◌, max, inl, inr}
+use Rattle.std.proofs.Common.{◌≡◌, ◌<◌, ◌^◌, ℕ, zero, suc, Bool, true, false, cond, List, [], ◌∷◌, ◌++◌, Option, Some, None, refl, sym, ap, subst, ◌∙◌, max, inl, inr}
 use Rattle.std.specs.Prelude.{◌⊎◌, IfSome, Result, Ok, Err, map, filter, not, slice_get, ◌&&◌, ◌||◌}
 use Rattle.std.specs.List.{flat_map, list_all}
 use Rattle.std.proofs.lemmas.Option.{none-some, same_Some}
@@ -116,6 +116,19 @@ lead-more : (o p : OutputHistory) (es : List OutputEvent) (e : OutputEvent) → 
 lead-more o p [] e same may = (subst (λ x. MayCome x e) same may, ap (λ x. output_next x e) same)
 lead-more o p (d ∷ es) e lead may = (lead.0, lead-more (output_next o d) p es e lead.1 may)
 
+-- no event changes what the servers are set to
+setting-stays : (h : OutputHistory) (e : OutputEvent) → (output_next h e).setting ≡ h.setting
+setting-stays h (Enter origin r now) = refl
+setting-stays h (Flush now kind) = refl
+setting-stays h (Look now) = refl
+setting-stays h (Take worker wanted now) = refl
+setting-stays h (Settle e) = refl
+setting-stays h (End back server now) = refl
+setting-stays h (PutBack number) = refl
+setting-stays h (Tell origins) = refl
+setting-stays h (Forget origins) = refl
+setting-stays h (ForgetAll conn) = refl
+
 pub one-more : (h : OutputHistory) (e : OutputEvent) → IsReachedOutput h → MayCome h e
     → IsReachedOutput (output_next h e)
 one-more h e r may = record {
@@ -123,6 +136,7 @@ one-more h e r may = record {
   servers = r.servers;
   events = r.events ++ e ∷ [];
   leads = lead-more (no_history r.setting r.servers) h r.events e r.leads may;
+  waits = subst (λ (s : ServersSetting). s.retry_max < 2 ^ 64) (sym (setting-stays h e)) r.waits;
 }
 
 -- an event may come to a history, and leads to what is shown
@@ -147,12 +161,12 @@ goes l m t turn = record {
 
 -- ---- the events
 
-pub begins : (setting : BufferSetting) (servers : ServersSetting)
+pub begins : (setting : BufferSetting) (servers : ServersSetting) → servers.retry_max < 2 ^ 64
     → IsLiveOutput (no_requests setting servers)
 unfolding live_output live_buffer live_book
-begins setting servers = record {
+begins setting servers fits = record {
   history = no_history setting servers;
-  reached = record { setting = setting; servers = servers; events = []; leads = refl };
+  reached = record { setting = setting; servers = servers; events = []; leads = refl; waits = fits };
   is = refl;
 }
 
@@ -348,10 +362,11 @@ come_back (x ∷ hs) h now d own back =
     by (inr not) others = others h own (back.1 not)
 
 loses-live : (setting : ServersSetting) (s : ServersHistory) (server : Option ℕ) (moment : ℕ)
+    → setting.retry_max < 2 ^ 64
     → live_servers setting (loses setting s server moment)
     ≡ live_loses (live_servers setting s) server moment
-loses-live setting s None moment = refl
-loses-live setting s (Some server) moment = live-lost setting s server moment
+loses-live setting s None moment fits = refl
+loses-live setting s (Some server) moment fits = live-lost setting s server moment fits
 
 -- the chunks that are handed back, and the server that may be lost
 pub end-turn : (l : LiveOutput) (d : LiveBuffer) (hs : List Handed) (server : Option ℕ) (now : ℕ)
@@ -372,7 +387,7 @@ end-turn l d hs server now t back =
       is = λ i. record {
         buffer = c.is i;
         book = (t.is i).book;
-        servers = (ap (λ (x : LiveOutput). live_loses x.servers server (max x.buffer.moment now)) t.is ∙ sym (loses-live h.setting h.servers server (max h.buffer.moment now))) i;
+        servers = (ap (λ (x : LiveOutput). live_loses x.servers server (max x.buffer.moment now)) t.is ∙ sym (loses-live h.setting h.servers server (max h.buffer.moment now) t.reached.waits)) i;
       };
     }
 

@@ -15,13 +15,15 @@ use Rattle.std.specs.Prelude.{
   is_some,
   option_map,
   IfSome,
+  if◌then◌else◌,
 }
 use Rattle.fwd_chunks.specs.declared.chunk.Chunk.{Chunk}
-use Rattle.fwd_chunks.specs.declared.flush.FlushKind.TheVariants as kind
+use Rattle.fwd_chunks.specs.declared.flush.FlushKind.{FlushKind}
 use Rattle.fwd_chunks.specs.declared.wanted.Wanted.{Wanted}
 use Rattle.fwd_chunks.specs.declared.wanted.Wanted.TheVariants as wanted
 use Rattle.fwd_chunks.specs.Live.{
   live_carried_chunk,
+  live_first_closing,
   live_flushes,
   live_given_for,
   live_looks,
@@ -44,10 +46,10 @@ use Rattle.fwd_output.specs.declared.server_view.ServerView.{ServerView}
 abbrev pub locked_looks : LockedState → (now : ℕ) → LockedState
 locked_looks s now = locked_with s (output_looks s.output now)
 
--- its open chunks are closed that are due
-abbrev pub locked_flushes : LockedState → (now : ℕ) → LockedState
-locked_flushes s now =
-    locked_with s (record (s.output) { buffer = live_flushes s.output.buffer now kind.Due })
+-- its open chunks are closed that a flush closes
+abbrev pub locked_flushes : LockedState → (now : ℕ) → FlushKind → LockedState
+locked_flushes s now kind =
+    locked_with s (record (s.output) { buffer = live_flushes s.output.buffer now kind })
 
 -- a worker takes the free chunk that it wants, if there is one
 abbrev pub locked_takes : LockedState → (worker : ℕ) → Wanted → (now : ℕ) → LockedState
@@ -88,22 +90,13 @@ wants_fresh s view (chunk_use.Follow own) = is_server view.server own && view.is
 wants_fresh s view (chunk_use.Join own) = false
 wants_fresh s view (chunk_use.Ask server) = true
 
--- such a chunk is wanted only where one is free
-abbrev pub wanted_first : (is_first : Bool) → (first : Option Chunk) → Wanted
-wanted_first true (Some c) = wanted.Fresh
-wanted_first true None = wanted.Any
-wanted_first false first = wanted.Any
+-- which free chunk it looks for first
+abbrev pub wanted_first : LockedState → ServerView → ChunkUse → Wanted
+wanted_first s view purpose = if wants_fresh s view purpose then wanted.Fresh else wanted.Any
 
--- which free chunk it wants at a moment
-abbrev pub wanted_for : LockedState → ServerView → ChunkUse → (now : ℕ) → Wanted
-wanted_for s view purpose now =
-    wanted_first (wants_fresh s view purpose)
-    (live_given_for (live_looks s.output.buffer now) wanted.Fresh)
-
--- the free chunk that it is offered at a moment, if there is one
-abbrev pub offered : LockedState → ServerView → ChunkUse → (now : ℕ) → Option Chunk
-offered s view purpose now =
-    live_given_for (live_looks s.output.buffer now) (wanted_for s view purpose now)
+-- the chunk that is free at a moment for what is wanted, if there is one
+abbrev pub free_for : LockedState → Wanted → (now : ℕ) → Option Chunk
+free_for s wanted now = live_given_for (live_looks s.output.buffer now) wanted
 
 -- Whether it takes the chunk that it is offered. One that goes to another server than its session's
 -- stays free, one that was lost joins no others, and one that is only to be seen is not taken.
@@ -117,27 +110,56 @@ takes view (chunk_use.Follow own) offer =
 takes view (chunk_use.Join own) offer = not (nat_lt 0 offer.losses)
 takes view (chunk_use.Ask server) offer = false
 
--- an offer tells of this chunk: its number, and how often it was lost
-abbrev pub IsOf : Offer → Option Chunk → Type 0
-IsOf offer None = ⊥
-IsOf offer (Some c) = (offer.number ≡ c.number) × (offer.losses ≡ times_lost c.losses)
+-- an offer tells of this free chunk: its number, and how often it was lost
+abbrev pub IsOf : Offer → Chunk → Type 0
+IsOf offer c = (offer.number ≡ c.number) × (offer.losses ≡ times_lost c.losses)
 
--- What a worker that may look finds at a moment, and what that leaves of the output. Where no chunk
--- is free there is nothing. Else it takes the chunk that it is offered where that is for its use,
--- and leaves all as it is where it is not.
+-- an offer tells of this open chunk: its number, and that it was never lost
+abbrev pub IsOfOpen : Offer → Chunk → Type 0
+IsOfOpen offer c =
+    (offer.number ≡ c.number) × (offer.losses ≡ 0) × (offer.elsewhere ≡ None)
+
+-- A worker is offered this free chunk, as the one that it wants. It takes the chunk if that is for
+-- its use, and leaves all as it is if not.
+abbrev pub HasFoundFree : Wanted → Chunk → Found → LockedState → ServerView → ChunkSearch
+    → (now : ℕ) → LockedState → Type 0
+HasFoundFree wanted c found.Nothing s view search now t = ⊥
+HasFoundFree wanted c (found.Passed offer) s view search now t =
+    IsOf offer c × (takes view search.chunk_use offer ≡ false) × (t ≡ s)
+HasFoundFree wanted c (found.Took picked) s view search now t =
+    IsOf picked.offer c × (takes view search.chunk_use picked.offer ≡ true)
+    × (picked.chunk ≡ live_carried_chunk s.output.buffer c)
+    × (t ≡ locked_takes s search.worker wanted now)
+
+-- A worker is offered this open chunk, the first that a flush closes. It takes the chunk if that is
+-- for its use, and only then is anything closed.
+abbrev pub HasFoundOpen : Wanted → Chunk → Found → LockedState → ServerView → ChunkSearch
+    → (now : ℕ) → LockedState → Type 0
+HasFoundOpen wanted c found.Nothing s view search now t = ⊥
+HasFoundOpen wanted c (found.Passed offer) s view search now t =
+    IsOfOpen offer c × (takes view search.chunk_use offer ≡ false) × (t ≡ s)
+HasFoundOpen wanted c (found.Took picked) s view search now t =
+    IsOfOpen picked.offer c × (takes view search.chunk_use picked.offer ≡ true)
+    × (picked.chunk ≡ live_carried_chunk s.output.buffer c)
+    × (t ≡ locked_takes (locked_flushes s now search.closes) search.worker wanted now)
+
+-- A worker is offered the free chunk that it looks for first; if there is none the first open chunk
+-- that may be closed; and if there is none either, any chunk that is free.
+abbrev pub HasFoundOf : Wanted → (first closing any : Option Chunk) → Found → LockedState
+    → ServerView → ChunkSearch → (now : ℕ) → LockedState → Type 0
+HasFoundOf first (Some c) closing any = HasFoundFree first c
+HasFoundOf first None (Some c) any = HasFoundOpen first c
+HasFoundOf first None None (Some c) = HasFoundFree wanted.Any c
+HasFoundOf first None None None = λ what s view search now t. (what ≡ found.Nothing) × (t ≡ s)
+
+-- What a worker that may look finds at a moment, and what that leaves of the output.
 abbrev pub HasFound : Found → LockedState → ServerView → ChunkSearch → (now : ℕ)
     → LockedState → Type 0
-HasFound found.Nothing s view search now t =
-    (offered s view search.chunk_use now ≡ None) × (t ≡ s)
-HasFound (found.Passed offer) s view search now t =
-    IsOf offer (offered s view search.chunk_use now)
-    × (takes view search.chunk_use offer ≡ false) × (t ≡ s)
-HasFound (found.Took picked) s view search now t =
-    IsOf picked.offer (offered s view search.chunk_use now)
-    × (takes view search.chunk_use picked.offer ≡ true)
-    × (Some picked.chunk ≡ option_map (live_carried_chunk s.output.buffer)
-    (offered s view search.chunk_use now))
-    × (t ≡ locked_takes s search.worker (wanted_for s view search.chunk_use now) now)
+HasFound found s view search now t =
+    HasFoundOf (wanted_first s view search.chunk_use)
+    (free_for s (wanted_first s view search.chunk_use) now)
+    (live_first_closing s.output.buffer now search.closes) (free_for s wanted.Any now)
+    found s view search now t
 
 -- What was found is for the use, for which the worker may look: a chunk that was taken is just the
 -- one that was offered, and is for this use; and one that was passed by is not.

@@ -2,6 +2,8 @@
 -- reaches.
 use Rattle.std.specs.Prelude.{
   ◌≡◌,
+  ◌<◌,
+  ◌^◌,
   ℕ,
   true,
   List,
@@ -90,12 +92,14 @@ abbrev pub Lead : OutputHistory → List OutputEvent → OutputHistory → Type 
 Lead o [] p = p ≡ o
 Lead o (e ∷ es) p = MayCome o e × Lead (output_next o e) es p
 
--- a run of an output's own events, from an output without entries, reaches the history
+-- a run of an output's own events, from an output without entries, reaches the history; 64 bits hold
+-- the longest wait of its servers
 pub record IsReachedOutput (h : OutputHistory) : Type 0 where
   pub setting : BufferSetting
   pub servers : ServersSetting
   pub events : List OutputEvent
   pub leads : Lead (no_history setting servers) events h
+  pub waits : h.setting.retry_max < 2 ^ 64
 
 -- what is shown is the live part of such a history
 pub record IsLiveOutput (l : LiveOutput) : Type 0 where

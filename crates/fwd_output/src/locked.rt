@@ -5,6 +5,7 @@ ghost use Rattle.std.specs.Prelude.{
   ◌≤◌,
   ◌+◌,
   ◌++◌,
+  ◌||◌,
   List,
   Err,
   true,
@@ -16,6 +17,7 @@ ghost use Rattle.std.specs.Prelude.{
   map,
   max,
   All,
+  is_some,
   option_map,
   option_to_list,
   IfOk,
@@ -31,6 +33,7 @@ ghost use Rattle.fwd_chunks.specs.declared.wanted.Wanted.TheVariants as wanted;
 ghost use Rattle.fwd_chunks.specs.Live.{
   IsCarried,
   live_closing,
+  live_first_closing,
   live_counts,
   live_flushes,
   live_given,
@@ -374,6 +377,16 @@ impl<A: Tally, S: Tally> Locked<A, S> {
         }) }
     {
         self.state.flush(now, kind)
+    }
+
+    /// Whether a worker could send a chunk at a moment (milliseconds): one is free, or a flush of
+    /// this kind closes one.
+    pub fn has_chunk(&self, now: u64, kind: FlushKind) -> bool
+        ensures { result ≡ (is_some (live_given (live_looks self.now.output.buffer now))
+            || is_some (live_first_closing self.now.output.buffer now kind)) }
+    {
+        let state = self.state.now();
+        state.free_chunk(Wanted::Any, now).is_some() || state.first_closing(now, kind).is_some()
     }
 
     /// The server that a worker tries at a moment (milliseconds), if one is usable.

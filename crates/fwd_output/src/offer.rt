@@ -1,12 +1,12 @@
 //! A free chunk, as a worker sees it before it takes it, and what the worker found.
 
-ghost use Rattle.std.specs.Prelude.{◌≡◌, nat_lt};
+ghost use Rattle.std.specs.Prelude.{◌≡◌, nat_lt, None};
 ghost use Rattle.fwd_output.specs.Elsewhere.{away_from, has_server};
 
 use crate::server_set::ServerSet;
 use fwd_chunks::Carried;
 
-/// What is known of a free chunk before a worker takes it.
+/// What is known of a chunk before a worker takes it.
 #[derive(Clone, Copy)]
 pub struct Offer {
     pub number: u64,
@@ -20,6 +20,20 @@ pub struct Offer {
 }
 
 impl Offer {
+    /// Of the open chunk of this number: an open chunk was never lost.
+    pub(crate) fn of_open(number: u64) -> Offer
+        ensures number { result.number ≡ number }
+        ensures losses { result.losses ≡ 0 }
+        ensures elsewhere { result.elsewhere ≡ None }
+    {
+        Offer {
+            number,
+            losses: 0,
+            lost_at: ServerSet::none(),
+            elsewhere: None,
+        }
+    }
+
     /// Whether the chunk was lost before.
     pub fn was_lost(&self) -> bool
         ensures { result ≡ nat_lt 0 self.now.losses }
@@ -50,8 +64,8 @@ pub struct PickedChunk {
 pub enum Found {
     /// No chunk is free that it may take.
     Nothing,
-    /// A chunk is free, and stays so: it is not for this use.
+    /// A chunk is free, or may be closed, and stays so: it is not for this use.
     Passed(Offer),
-    /// A chunk is free, and the worker took it.
+    /// A chunk was free, or was closed for the worker, which took it.
     Took(PickedChunk),
 }

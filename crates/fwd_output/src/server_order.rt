@@ -8,6 +8,7 @@ ghost use Rattle.fwd_output.specs.Elsewhere.{elsewhere, may_go};
 
 use crate::server_set::ServerSet;
 use fwd_base::{Losses, Retry};
+use fwd_failover::with_loss;
 use std::alloc::{AllocError, Global};
 use std::marker::Model;
 
@@ -80,10 +81,11 @@ impl ServerOrder {
         self.losses.len() == 1
     }
 
-    /// A server was lost at a moment (milliseconds).
+    /// A server was lost at a moment (milliseconds), which changes nothing while it waits after an
+    /// earlier loss.
     pub(crate) fn lost(&mut self, server: u16, now: u64) {
         if let Some(losses) = self.losses.get_mut(usize::from(server)) {
-            *losses = Some(Losses::more(*losses, now));
+            *losses = with_loss(self.retry, *losses, now);
         }
     }
 

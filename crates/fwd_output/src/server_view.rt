@@ -5,6 +5,7 @@ ghost use Rattle.fwd_output.specs.Looks.{is_server, may_look, takes};
 ghost use Rattle.fwd_output.specs.Elsewhere.{has_server, or_try, server_with, way_over};
 
 use crate::offer::{Found, Offer};
+use fwd_chunks::FlushKind;
 use std::alloc::AllocError;
 
 /// What a worker looks for a free chunk for.
@@ -30,8 +31,8 @@ pub struct ChunkSearch {
     pub worker: u16,
     /// What it looks for one for.
     pub chunk_use: ChunkUse,
-    /// For how long chunks that are due are left open, in milliseconds: more entries may join them.
-    pub leaves_open: u64,
+    /// Which open chunks may be closed if none is free: those that are due, or all.
+    pub closes: FlushKind,
 }
 
 /// What a worker sees of its output before it takes a chunk.

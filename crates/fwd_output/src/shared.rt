@@ -189,6 +189,11 @@ impl<A: Tally, S: Tally> SharedOutput<A, S> {
         self.lock.lock(rt).flush(now, kind)
     }
 
+    /// Whether a worker could send a chunk at a moment (milliseconds): one is free, or may be closed.
+    pub fn has_chunk<R: Wait>(&self, rt: &R, now: u64, kind: FlushKind) -> bool {
+        self.lock.lock(rt).has_chunk(now, kind)
+    }
+
     /// The server that a worker tries at a moment (milliseconds), if one is usable.
     pub fn choose<R: Wait>(&self, rt: &R, worker: u16, now: u64) -> Option<u16> {
         self.lock.lock(rt).choose(worker, now)
@@ -213,9 +218,9 @@ impl<A: Tally, S: Tally> SharedOutput<A, S> {
             .take(alloc, seat, worker, now)
     }
 
-    /// What a worker sees at a moment (milliseconds); and where it looks for a chunk for its use,
-    /// the open chunks are closed that are due and not left open, and it takes the free chunk that
-    /// it is offered where that is for this use. The only error is out of memory.
+    /// What a worker sees at a moment (milliseconds); and if it looks for a chunk for its use, it
+    /// takes the one that it is offered, if that is for this use: a free one, or the first open one
+    /// that may be closed, and only then are any closed. The only error is out of memory.
     pub fn look_for<R: Wait>(
         &self,
         rt: &R,

@@ -2,6 +2,7 @@
 
 ghost use Rattle.std.specs.Prelude.{◌≡◌, None, Some, IfOk, IfSome, slice_get};
 
+use fwd_chunks::FlushKind;
 use fwd_environment::{Denial, Gate, Pass, Place, Refused, WorkerEvent};
 use fwd_history::Run;
 use fwd_links::{
@@ -64,6 +65,7 @@ impl<'a, J: Run> WorkerGate<'a, J> {
                 self.loaded = self.loaded.saturating_add(1);
                 self.note_busy(rt, true);
                 self.work(rt);
+                self.wake_next(rt);
                 self.assure(rt, place);
             }
             Place::BeforeSettle | Place::AfterSettle => self.work(rt),
@@ -136,13 +138,21 @@ impl<'a, J: Run> WorkerGate<'a, J> {
         }
     }
 
-    /// The worker has a chunk. Where it was woken meanwhile another worker is: the wake may be for
-    /// another chunk.
+    /// The worker has a chunk. If it was woken meanwhile, another worker is woken: the wake may be
+    /// for another chunk.
     fn work<R: Wait>(&mut self, rt: &R) {
         self.backoff = Backoff::AtOnce;
         let was_woken = self.wait.lock(rt).work();
         if was_woken {
-            self.output.wake(1);
+            self.output.wake();
+        }
+    }
+
+    /// The worker took a chunk. If it left more to send, another worker is woken, which does the
+    /// same: a reader wakes one worker, however many chunks are due.
+    fn wake_next<R: Wait>(&self, rt: &R) {
+        if self.output.is_awaited() && self.output.has_chunk(rt, 0, self.flags.is_draining()) {
+            self.output.wake();
         }
     }
 }
@@ -157,9 +167,8 @@ impl<'a, J: Run> Gate for WorkerGate<'a, J> {
         }
     }
 
-    fn leaves_open(&self, worker: u16) -> u64 {
-        let own = if self.loaded == 0 { Some(worker) } else { None };
-        self.output.leaves_open(own)
+    fn closes(&self, _worker: u16) -> FlushKind {
+        self.output.closes(self.flags.is_draining())
     }
 
     fn hear<R: Wait>(&mut self, rt: &R, worker: u16, event: WorkerEvent) {

@@ -35,7 +35,7 @@
 //! each turn of the reader (`tend`). Where another reader has its turn, or may have room, all are
 //! called (`passes_on`). And a reader hears of what is settled as long as it is owed anything or
 //! sources wait there (`rest`). While sources wait, chunks are sent before they are due
-//! (`Router::flush`): only what is sent makes room, and is answered.
+//! (`Output::closes`): only what is sent makes room, and is answered.
 //!
 //! **Who gives up.** Where all places are taken, a source that waits may have to give its own to a
 //! new one (`EvictionCandidate`; the rule is in `places.rt` of `fwd_turns`). One whose other side

@@ -1,4 +1,4 @@
-//! When an output's open chunks are closed.
+//! When a worker is to be woken for an output's open chunks.
 
 ghost use Rattle.std.specs.Prelude.{
   ◌≡◌,
@@ -13,15 +13,16 @@ ghost use Rattle.std.specs.Prelude.{
   is_some,
   max,
   min,
+  nat_le,
   option_map,
   IfSome,
 };
 
-/// How long after a flush an output's next one is due, in milliseconds, while chunks may be open:
-/// it is due sooner where all of them are old enough sooner.
+/// How long after a look at an output the next one is due, in milliseconds, while chunks may be open
+/// that were not due: it is due sooner where all of them are old enough sooner.
 const STEP: u64 = 5;
 
-/// When an output is flushed next. Moments are in milliseconds.
+/// When an output's chunks may be due next. Moments are in milliseconds.
 #[derive(Drop)]
 pub struct FlushTimer {
     /// How long a chunk waits for more entries.
@@ -30,9 +31,9 @@ pub struct FlushTimer {
     is_fresh: bool,
     /// When the clock was looked at first, after a request was admitted last.
     latest: u64,
-    /// When the next flush is due: never while no chunk can be open.
+    /// When a chunk may be due next: never while none can be open that is not due.
     due: Option<u64>,
-    /// Until when nobody need look whether it is: what is due is left open.
+    /// Until when nobody need look whether it is: a worker is woken for what is due a little later.
     rests: u64,
 }
 
@@ -75,7 +76,7 @@ impl FlushTimer {
         }
     }
 
-    /// When to look next whether a flush is due, if one is to come.
+    /// When to look next whether chunks are due, if they may be at some moment.
     pub(crate) fn next_look(&self) -> Option<u64>
         ensures { result ≡ option_map (λ due. max due self.now.rests) self.now.due }
     {
@@ -85,7 +86,7 @@ impl FlushTimer {
         }
     }
 
-    /// Whether a flush is due at this moment.
+    /// Whether chunks may be due at this moment.
     pub(crate) fn is_due(&self, now: u64) -> bool
         ensures some { result ≡ true → IfSome self.now.due (λ due. due ≤ now) }
         ensures none { result ≡ false → IfSome self.now.due (λ due. now < due) }
@@ -96,12 +97,12 @@ impl FlushTimer {
         }
     }
 
-    /// Chunks were flushed at this moment, or are left to the workers to close, who do so before
-    /// they look for one. What was admitted after the last of these chunks may be open still. The
+    /// A worker is woken for the chunks that are due at this moment, or all are at work, and the first
+    /// to look finds them. What was admitted after the last of these chunks may be due later. The
     /// loop asks after its admissions whether a worker looks, and a worker says so before it reads
-    /// its clock: so one of the two closes what was admitted.
-    pub(crate) fn flushed(&mut self, now: u64)
-        // No flush is due only where what was admitted last was old enough.
+    /// its clock: so either the worker finds what was admitted, or it is woken for it.
+    pub(crate) fn handled(&mut self, now: u64)
+        // None is due later only where what was admitted last was old enough.
         ensures none { self.new.due ≡ None
             → min (self.old.latest + self.old.interval) (2 ^ 64 - 1) ≤ now }
         ensures soon { IfSome self.new.due (λ due. due ≤ now + STEP) }
@@ -115,11 +116,18 @@ impl FlushTimer {
         };
     }
 
-    /// What is due at this moment is left open for a while: it is looked at again at the next one.
+    /// No worker is woken at this moment for what is due: it is looked at again at the next one.
     pub(crate) fn rest(&mut self, now: u64)
         ensures { self.new ≡ record self.old { rests = min (now + 1) (2 ^ 64 - 1) } }
     {
         self.rests = now.saturating_add(1);
+    }
+
+    /// Whether it may be looked again at this moment.
+    pub(crate) fn is_rested(&self, now: u64) -> bool
+        ensures { result ≡ nat_le self.now.rests now }
+    {
+        self.rests <= now
     }
 
     /// Sources wait at this moment: the output is looked at again soon, also where what is

@@ -1,6 +1,6 @@
 //! The outputs, as threads share them.
 
-ghost use Rattle.std.specs.Prelude.{◌≡◌, ◌≤◌, ℕ, length, map, All, IfOk};
+ghost use Rattle.std.specs.Prelude.{◌≡◌, ◌≤◌, ℕ, true, length, map, All, IfOk};
 ghost use Rattle.fwd_history.specs.Histories.{Comes};
 ghost use Rattle.fwd_peers.specs.Peers as peers;
 ghost use Rattle.fwd_reader.specs.Ages.{age_at};
@@ -9,7 +9,7 @@ ghost use Rattle.fwd_reader.specs.Ends.{AddUp, AreReportsAfter, IsLast};
 use crate::admission::SharedAdmission;
 use crate::subscribers::Subscribers;
 use fwd_base::Text;
-use fwd_chunks::Report;
+use fwd_chunks::{FlushKind, Report};
 use fwd_history::Run;
 use fwd_links::WorkerWaker;
 use fwd_monitor::OutputFigures;
@@ -20,9 +20,9 @@ use std::alloc::{AllocError, Global};
 use std::net::SocketAddr;
 use std::sync::Wait;
 
-/// How long chunks that are due are left open for more entries while one of the output's workers
-/// has a chunk that is not acknowledged, in milliseconds. Once that one is settled they are taken
-/// at once. Many small chunks side by side cost more than they bring.
+/// How long no further worker is woken for chunks that are due while one of the output's workers has
+/// a chunk that is not acknowledged, in milliseconds. After that one is settled they are taken at
+/// once. Many small chunks side by side cost more than they bring.
 const GATHERING: u64 = 1;
 
 /// An output that threads share, where its servers are reached, and what wakes its workers.
@@ -74,34 +74,42 @@ impl<J: Run> Output<J> {
     }
 
     /// Whether one of the output's workers looks for a chunk.
-    pub(crate) fn is_awaited(&self) -> bool {
+    pub fn is_awaited(&self) -> bool {
         self.wakers.iter().any(|waker| waker.is_awaited())
     }
 
-    /// For how long chunks that are due are left open where a worker looks for one, in
-    /// milliseconds: `GATHERING` while a worker is at work, other than the one of this number.
-    pub fn leaves_open(&self, beside: Option<u16>) -> u64
+    /// For how long a worker that looks for a chunk is not woken for those that are due, in
+    /// milliseconds: `GATHERING` while another one is at work, and else not at all.
+    pub(crate) fn gathers(&self) -> u64
         ensures { result ≤ GATHERING }
     {
-        for (number, waker) in (0..u16::MAX).zip(&self.wakers) {
-            if waker.is_busy() && beside != Some(number) {
-                return GATHERING;
-            }
+        if self.wakers.iter().any(|waker| waker.is_busy()) {
+            GATHERING
+        } else {
+            0
         }
-        0
     }
 
-    /// Wakes the output's workers that look for a chunk, one for each of so many chunks.
-    pub fn wake(&self, chunks: usize) {
-        let mut left = chunks;
-        for waker in &self.wakers {
-            if left == 0 {
-                return;
-            }
-            if waker.wake() {
-                left -= 1;
-            }
+    /// Which open chunks may be closed for a worker: all, if the relay drains or sources wait here,
+    /// since only what is sent makes room, and is answered; and else those that are due.
+    pub fn closes(&self, is_draining: bool) -> FlushKind
+        ensures draining { is_draining ≡ true → result ≡ FlushKind.All }
+    {
+        if is_draining || self.admission.waiting_sources() > 0 {
+            FlushKind::All
+        } else {
+            FlushKind::Due
         }
+    }
+
+    /// Whether a worker could send a chunk at a moment (milliseconds).
+    pub fn has_chunk<R: Wait>(&self, rt: &R, now: u64, is_draining: bool) -> bool {
+        self.shared.has_chunk(rt, now, self.closes(is_draining))
+    }
+
+    /// Wakes a worker of the output that looks for a chunk, if one does.
+    pub fn wake(&self) {
+        let _ = self.wakers.iter().any(|waker| waker.wake());
     }
 }
 

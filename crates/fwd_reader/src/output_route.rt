@@ -20,7 +20,6 @@ use crate::flush_timer::FlushTimer;
 use crate::open_tickets::{Backlog, OpenTickets};
 use crate::output::Output;
 use fwd_book::{AdmitRefusal, Receipt};
-use fwd_chunks::FlushKind;
 use fwd_history::Run;
 use fwd_modes::Batch;
 use fwd_monitors::Accepted;
@@ -57,19 +56,8 @@ fn silent_entries(batch: &Batch) -> u64
     }
 }
 
-/// Which chunks a flush closes, where it is urgent or not.
-fn kind_of(is_urgent: bool) -> FlushKind
-    ensures urgent { is_urgent ≡ true → result ≡ FlushKind.All }
-    ensures due { is_urgent ≡ false → result ≡ FlushKind.Due }
-{
-    if is_urgent {
-        FlushKind::All
-    } else {
-        FlushKind::Due
-    }
-}
-
-/// An output, the tickets that it gave, and when it is flushed. It must be spent: by `close`.
+/// An output, the tickets that it gave, and when a worker is woken for what is due. It must be spent:
+/// by `close`.
 pub(crate) struct OutputRoute<'a, J: Run> {
     alloc: Global,
     output: &'a Output<J>,
@@ -174,46 +162,57 @@ impl<'a, J: Run> OutputRoute<'a, J> {
         if is_new {
             self.newest = Some(last.number);
             if self.output.has_more_than_a_chunk(rt) {
-                self.output.wake(1);
+                self.output.wake();
             }
         }
     }
 
-    /// Closes the chunks that are due at a moment (milliseconds) after all admissions, and wakes a
-    /// worker for each. Where no worker looks for a chunk, what is due is left open for more
-    /// entries: the next worker to look closes it. Where one looks and another chunk is under way,
-    /// it is left open a little longer. Where it is urgent, since sources wait or the relay drains,
-    /// all chunks are due: only what is sent makes room, and is answered.
-    pub fn flush<R: Wait>(&mut self, rt: &R, now: u64, is_urgent: bool)
+    /// Wakes a worker if one looks for a chunk, and could send one at a moment (milliseconds) after
+    /// all admissions. The worker closes what it takes, so that chunks go on growing while no worker
+    /// can send them. If all are at work, the first to look finds what is due. If one is at work, the
+    /// others are woken a little later. If it is urgent, since sources wait or the relay drains, a
+    /// worker is woken once in a millisecond: if its servers are away, it can send nothing.
+    pub fn wake_due<R: Wait>(&mut self, rt: &R, now: u64, is_urgent: bool)
         ensures { self.new.open_tickets ≡ self.old.open_tickets }
     {
-        let moment = now.saturating_sub(self.left_open(is_urgent));
+        let is_due = self.is_due(now, is_urgent);
+        let is_again = is_urgent && self.timer.is_rested(now);
+        if !self.output.is_awaited() || !(is_due || is_again) {
+            if is_urgent {
+                self.timer.hasten(now);
+            }
+            return;
+        }
+        if is_urgent {
+            self.timer.rest(now);
+        }
+        if self.output.has_chunk(rt, now, is_urgent) {
+            self.output.wake();
+        }
+    }
+
+    /// Whether chunks may be due at a moment (milliseconds), which is noted.
+    fn is_due(&mut self, now: u64, is_urgent: bool) -> bool
+        ensures { self.new.open_tickets ≡ self.old.open_tickets }
+    {
+        let moment = now.saturating_sub(self.gathers(is_urgent));
         self.timer.look(now);
         let is_due = self.timer.is_due(moment);
         if is_due {
-            self.timer.flushed(moment);
+            self.timer.handled(moment);
         }
         if moment < now {
             self.timer.rest(now);
         }
-        if !is_due && !is_urgent {
-            return;
-        }
-        if self.output.is_awaited() {
-            let count = self.output.shared.flush(rt, moment, kind_of(is_urgent));
-            self.output.wake(count);
-        } else if is_urgent {
-            self.timer.hasten(now);
-        }
+        is_due
     }
 
-    /// For how long what is due is left open, in milliseconds: not at all where no worker looks for
-    /// it, which then closes it before it takes it.
-    fn left_open(&self, is_urgent: bool) -> u64 {
+    /// For how long no worker is woken for what is due, in milliseconds.
+    fn gathers(&self, is_urgent: bool) -> u64 {
         if is_urgent || !self.output.is_awaited() {
             0
         } else {
-            self.output.leaves_open(None)
+            self.output.gathers()
         }
     }
 

@@ -326,26 +326,25 @@ impl<'a, J: Run> Router<'a, J> {
         wait
     }
 
-    /// Closes the chunks that are due at a moment (milliseconds) after all admissions; and all of
-    /// an output at which sources wait, or of each where the relay drains, where a worker could
-    /// send them.
-    pub fn flush<R: Wait>(&mut self, rt: &R, now: u64, is_draining: bool)
+    /// Wakes workers that could send a chunk at a moment (milliseconds) after all admissions: one
+    /// that is due; or any, if sources wait at its output, or the relay drains.
+    pub fn wake_due<R: Wait>(&mut self, rt: &R, now: u64, is_draining: bool)
         ensures { self.new ≡ self.old }
     {
         for place in 0..self.all.len() {
-            self.flush_at(rt, place, now, is_draining);
+            self.wake_due_at(rt, place, now, is_draining);
         }
     }
 
-    /// Closes those of the output at a place.
-    fn flush_at<R: Wait>(&mut self, rt: &R, place: usize, now: u64, is_draining: bool)
+    /// Wakes one of the output at a place.
+    fn wake_due_at<R: Wait>(&mut self, rt: &R, place: usize, now: u64, is_draining: bool)
         ensures { self.new ≡ self.old }
     {
         let has_waiting = self.admission.has_waiting(place);
         let Some(output_route) = self.all.get_mut(place) else {
             return;
         };
-        output_route.flush(rt, now, has_waiting | is_draining);
+        output_route.wake_due(rt, now, has_waiting | is_draining);
     }
 
     /// Counts what was accepted since the last call.

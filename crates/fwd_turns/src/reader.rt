@@ -295,11 +295,11 @@ impl<'a, J: Run, R: Wait + Clock> Reader<'a, J, R> {
             .read_all(rt, &mut context, observer, &mut self.clock);
     }
 
-    /// Flushes what is due at a moment (milliseconds), and wakes workers for it; counts what was
-    /// admitted; and looks at who waits.
-    pub fn flush<W: Observer>(&mut self, rt: &R, observer: &mut W, now: u64) {
+    /// Wakes workers that could send a chunk at a moment (milliseconds); counts what was admitted; and
+    /// looks at who waits.
+    pub fn tend_outputs<W: Observer>(&mut self, rt: &R, observer: &mut W, now: u64) {
         self.router
-            .flush(rt, now, self.mailbox.flags().is_draining());
+            .wake_due(rt, now, self.mailbox.flags().is_draining());
         self.router.count(rt, self.tally);
         self.router.tend(rt, observer, now);
     }

@@ -85,7 +85,7 @@ impl<'a, J: Run, R: Wait + Clock> Turns<'a, J, R> {
         self.read(rt, observer, now);
         self.tend(rt, setup, observer, now);
         let now = self.reader.moment();
-        self.reader.flush(rt, observer, now);
+        self.reader.tend_outputs(rt, observer, now);
         self.reader.pass_on();
         if let Some(front) = &mut self.front {
             front.tend_monitors(rt, &mut self.reader, observer, now);

@@ -18,9 +18,9 @@ pub(crate) struct Sight {
     pub(crate) found: Found,
 }
 
-/// What a worker sees of its output, and what it finds there for this use: looking, closing what is
-/// due and taking are one turn under the output's lock. Where memory is refused for the chunk it
-/// finds nothing.
+/// What a worker sees of its output, and what it finds there for this use: looking, closing and
+/// taking are one turn under the output's lock. If memory is refused for the chunk, it finds
+/// nothing.
 pub(crate) fn look_for<A: Tally, S: Tally, R: Wait>(
     context: &TurnContext<'_, A, S, R>,
     alloc: Global,
@@ -36,7 +36,7 @@ pub(crate) fn look_for<A: Tally, S: Tally, R: Wait>(
     let search = ChunkSearch {
         worker: page.worker(),
         chunk_use,
-        leaves_open: context.leaves_open,
+        closes: context.closes,
     };
     let Look { view, found } = context
         .out

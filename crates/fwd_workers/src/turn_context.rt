@@ -1,16 +1,17 @@
 //! What a worker's turn has at hand.
 
+use fwd_chunks::FlushKind;
 use fwd_environment::{Clock, Hub};
 use fwd_output::{SharedOutput, Tally};
 use std::sync::Wait;
 
-/// What a worker's turn has at hand: the runtime, the output, the moment, and for how long chunks
-/// are left open that are due (both in milliseconds).
+/// What a worker's turn has at hand: the runtime, the output, the moment (milliseconds), and which
+/// open chunks may be closed for the worker.
 pub(crate) struct TurnContext<'a, A: Tally, S: Tally, R: Wait> {
     pub(crate) rt: &'a R,
     pub(crate) out: &'a SharedOutput<A, S>,
     pub(crate) now: u64,
-    pub(crate) leaves_open: u64,
+    pub(crate) closes: FlushKind,
 }
 
 impl<'a, A: Tally, S: Tally, R: Wait> Drop for TurnContext<'a, A, S, R> {
@@ -19,7 +20,7 @@ impl<'a, A: Tally, S: Tally, R: Wait> Drop for TurnContext<'a, A, S, R> {
             rt: _,
             out: _,
             now: _,
-            leaves_open: _,
+            closes: _,
         } = self;
     }
 }

@@ -15,6 +15,7 @@ use crate::serve::ROOM;
 use crate::turn_context::{Outside, TurnContext};
 use crate::upstream::WorkerState;
 use crate::upstream_end::finish;
+use fwd_chunks::FlushKind;
 use fwd_environment::{Clock, Gate, Hub, Pass, WorkerEvent};
 use fwd_handshake::Login;
 use fwd_history::Run;
@@ -93,8 +94,9 @@ impl<J: Run> Worker<J> {
         }
     }
 
-    /// Closes chunks that are due and takes them, sends them to servers and settles what they
-    /// acknowledged, in so many turns, or until the gate stops it. While the window has room it
+    /// Takes chunks that are free or due, sends them to servers and settles what they acknowledged,
+    /// in so many turns, or until the gate stops it. It closes open chunks only if it takes one of
+    /// them. While the window has room it
     /// loads what is free beside what is not acknowledged yet, unless it is to try another server,
     /// and waits for no reply before that. A session ends at a fault, where its link is closed or
     /// fails, where it is late, and when out of memory; a link that cannot be had is a loss of its
@@ -130,12 +132,12 @@ impl<J: Run> Worker<J> {
                 Some(place) => gate.pass(rt, self.page.worker(), place, turn),
             };
             let now = clock.now();
-            let leaves_open = gate.leaves_open(self.page.worker());
+            let closes = gate.closes(self.page.worker());
             let context = TurnContext {
                 rt,
                 out,
                 now,
-                leaves_open,
+                closes,
             };
             match pass {
                 Pass::Go => {
@@ -158,7 +160,7 @@ impl<J: Run> Worker<J> {
             rt,
             out,
             now,
-            leaves_open: 0,
+            closes: FlushKind::Due,
         };
         finish(&context, &mut seat, &mut self.page, state);
         (seat, WorkerEnd { is_stopped: false })

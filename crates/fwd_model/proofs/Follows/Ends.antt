@@ -1,5 +1,5 @@
 -- The live part follows the history where a worker's session ends.
-use Rattle.std.proofs.Common.{◌≡◌, ◌≢◌, ℕ, ◌+◌, ◌≤◌, Bool, true, false, cond, eqb, List, [], ◌∷◌, ◌++◌, length, Option, Some, None, refl, sym, ap, subst, ◌∙◌, zero-add, max, inl, inr, arith}
+use Rattle.std.proofs.Common.{◌≡◌, ◌≢◌, ℕ, ◌+◌, ◌^◌, ◌<◌, ◌≤◌, Bool, true, false, cond, eqb, List, [], ◌∷◌, ◌++◌, length, Option, Some, None, refl, sym, ap, subst, ◌∙◌, zero-add, max, inl, inr, arith}
 use Rattle.std.proofs.lemmas.List.{append-nil, map-append}
 use Rattle.std.specs.Prelude.{◌⊎◌, is_some, map, not, ◌==◌, option_to_list, slice_get}
 use Rattle.std.specs.List.{AllByRecursion}
@@ -199,10 +199,11 @@ others_kept b w v (k ∷ ks) apart differ all =
 -- ---- the servers
 
 loses-live : (setting : ServersSetting) (s : ServersHistory) (server : Option ℕ) (moment : ℕ)
+    → setting.retry_max < 2 ^ 64
     → live_servers setting (loses setting s server moment)
     ≡ live_loses (live_servers setting s) server moment
-loses-live setting s None moment = refl
-loses-live setting s (Some server) moment = live-lost setting s server moment
+loses-live setting s None moment fits = refl
+loses-live setting s (Some server) moment fits = live-lost setting s server moment fits
 
 -- ---- the output
 
@@ -235,7 +236,7 @@ module _ (l : Lane) (w : ℕ) (back : List Return) (now : ℕ) (own : IsSaneLane
     output = record {
       buffer = (given.live ∙ ap (λ b. live_gets_back b back now) (buffer.looks-live l.output.buffer now)) i;
       book = live_book l.output.book;
-      servers = loses-live l.output.setting l.output.servers server (max l.output.buffer.moment now) i;
+      servers = loses-live l.output.setting l.output.servers server (max l.output.buffer.moment now) own.waits i;
     };
     workers = one_changes l.output (output_history_ends l.output back server now) w 0 w l.sessions None x None others_have (ap (not_loaded []) it_has) (sym (zero-add w)) here i;
   }

@@ -2,7 +2,7 @@
 
 ghost use Rattle.std.specs.Prelude.{
   ◌≡◌,
-  ◌-◌,
+  ◌⊎◌,
   Ok,
   Some,
   None,
@@ -13,16 +13,18 @@ ghost use Rattle.std.specs.Prelude.{
   IfSome,
   OnErr,
 };
-ghost use Rattle.fwd_chunks.specs.Live.{live_given_for, live_looks, times_lost};
+ghost use Rattle.fwd_chunks.specs.Live.{live_first_closing, live_free_chunk};
 ghost use Rattle.fwd_output.specs.Paged.{MayTake, Takes, taken_of};
 ghost use Rattle.fwd_output.specs.Looks.{
   HasFound,
+  HasFoundFree,
+  HasFoundOpen,
   IsSeen,
+  free_for,
   locked_flushes,
   locked_looks,
   may_look,
-  offered,
-  wanted_for,
+  wanted_first,
   wants_fresh,
 };
 
@@ -31,16 +33,25 @@ use crate::offer::{Found, Offer, PickedChunk};
 use crate::server_set::ServerSet;
 use crate::server_view::{ChunkSearch, ChunkUse, Look, ServerView};
 use crate::tally::Tally;
-use fwd_chunks::{FlushKind, Wanted};
+use fwd_chunks::{FreeChunk, Wanted, closed_is_given};
 use fwd_run::WorkerPage;
 use std::alloc::{AllocError, Global};
 
+/// A worker that looks for a chunk at a moment (milliseconds), by what it sees of the output.
+#[derive(Clone, Copy)]
+struct Looker {
+    search: ChunkSearch,
+    view: ServerView,
+    now: u64,
+}
+
 impl<A: Tally, S: Tally> Locked<A, S> {
-    /// What a worker sees at a moment (milliseconds); and where it looks for a chunk for its use,
-    /// the open chunks are closed that are due and not left open, and it takes the free chunk that
-    /// it is offered where that is for this use. Where a server is to be tried that is not known to
-    /// work, one is offered that no loss ever held back, if there is one, and else the one of the
-    /// least number. On an error, out of memory, it has none.
+    /// What a worker sees at a moment (milliseconds); and if it looks for a chunk for its use, it
+    /// takes the chunk that it is offered, if that is for this use. It is offered a free one. If none
+    /// is free, it is offered the first open one that is due, or the first open one of all if it may
+    /// close all. Only if it takes that one are open chunks closed: all others go on growing until a
+    /// worker can send them. If a server is to be tried that is not known to work, a chunk that was
+    /// lost is offered last. On an error, out of memory, it has none.
     pub fn look_for(
         &mut self,
         alloc: Global,
@@ -55,11 +66,12 @@ impl<A: Tally, S: Tally> Locked<A, S> {
         ensures leaves { may_look result.view search.chunk_use ≡ false
             → (result.found ≡ Ok Found.Nothing) × (self.new ≡ locked_looks self.old now) }
         ensures found { may_look result.view search.chunk_use ≡ true → IfOk result.found (λ found.
-            HasFound found
-            (locked_flushes (locked_looks self.old now) (now - search.leaves_open))
-            result.view search now self.new) }
-        ensures err { OnErr result.found (self.new
-            ≡ locked_flushes (locked_looks self.old now) (now - search.leaves_open)) }
+            HasFound found (locked_looks self.old now) result.view search now self.new) }
+        // Nothing is closed where nothing is taken.
+        ensures open { IfOk result.found (λ found.
+            taken_of found ≡ None → self.new ≡ locked_looks self.old now) }
+        ensures err { OnErr result.found ((self.new ≡ locked_looks self.old now)
+            ⊎ (self.new ≡ locked_flushes (locked_looks self.old now) now search.closes)) }
         ensures takes { IfOk result.found (λ found.
             Takes worker.old (taken_of found) worker.new) }
         ensures stays { OnErr result.found (worker.new ≡ worker.old) }
@@ -73,21 +85,54 @@ impl<A: Tally, S: Tally> Locked<A, S> {
                 found: Ok(Found::Nothing),
             };
         }
-        self.flush(now.saturating_sub(search.leaves_open), FlushKind::Due);
-        let found = self.find(alloc, worker, search, view, now);
+        let looker = Looker { search, view, now };
+        let found = self.find(alloc, worker, looker);
         Look { view, found }
     }
 
-    /// Which free chunk a worker wants at a moment.
-    fn wanted_for(&self, view: ServerView, chunk_use: ChunkUse, now: u64) -> Wanted
-        ensures { result ≡ wanted_for self.now view chunk_use now }
+    /// Takes the chunk that a worker is offered, if that is for its use. On an error, out of memory,
+    /// it has none.
+    fn find(
+        &mut self,
+        alloc: Global,
+        worker: &mut WorkerPage<A::Run>,
+        looker: Looker,
+    ) -> Result<Found, AllocError>
+        requires may { MayTake worker.old self.old.output.book.setting.output }
+        requires own { looker.search.worker ≡ worker.old.worker }
+        ensures found { IfOk result (λ found.
+            HasFound found self.old looker.view looker.search looker.now self.new) }
+        ensures open { IfOk result (λ found. taken_of found ≡ None → self.new ≡ self.old) }
+        ensures err { OnErr result ((self.new ≡ self.old)
+            ⊎ (self.new ≡ locked_flushes self.old looker.now looker.search.closes)) }
+        ensures takes { IfOk result (λ found. Takes worker.old (taken_of found) worker.new) }
+        ensures stays { OnErr result (worker.new ≡ worker.old) }
     {
-        if !self.wants_fresh(view, chunk_use) {
-            return Wanted::Any;
+        let first = self.wanted_first(looker.view, looker.search.chunk_use);
+        if let Some(free) = self.state.now().free_chunk(first, looker.now) {
+            return self.take_free(alloc, worker, looker, first, free);
         }
-        match self.state.now().free_chunk(Wanted::Fresh, now) {
-            Some(_) => Wanted::Fresh,
-            None => Wanted::Any,
+        let closing = self
+            .state
+            .now()
+            .first_closing(looker.now, looker.search.closes);
+        if let Some(number) = closing {
+            return self.take_open(alloc, worker, looker, first, number);
+        }
+        match self.state.now().free_chunk(Wanted::Any, looker.now) {
+            Some(free) => self.take_free(alloc, worker, looker, Wanted::Any, free),
+            None => Ok(Found::Nothing),
+        }
+    }
+
+    /// Which free chunk a worker looks for first.
+    fn wanted_first(&self, view: ServerView, chunk_use: ChunkUse) -> Wanted
+        ensures { result ≡ wanted_first self.now view chunk_use }
+    {
+        if self.wants_fresh(view, chunk_use) {
+            Wanted::Fresh
+        } else {
+            Wanted::Any
         }
     }
 
@@ -104,50 +149,87 @@ impl<A: Tally, S: Tally> Locked<A, S> {
         }
     }
 
-    /// What is known of the free chunk that a worker wants at a moment, if there is one.
-    fn offer(&self, wanted: Wanted, worker: u16, now: u64) -> Option<Offer>
-        ensures number { option_map (λ o. o.number) result ≡ option_map (λ c. c.number)
-            (live_given_for (live_looks self.now.output.buffer now) wanted) }
-        ensures losses { option_map (λ o. o.losses) result ≡ option_map (λ c. times_lost c.losses)
-            (live_given_for (live_looks self.now.output.buffer now) wanted) }
-    {
-        let free = self.state.now().free_chunk(wanted, now)?;
-        let (lost_at, elsewhere) = self.way_of(free.number, worker, now);
-        Some(Offer {
-            number: free.number,
-            losses: free.losses,
-            lost_at,
-            elsewhere,
-        })
-    }
-
-    /// Takes the free chunk that a worker is offered, where it is for its use. On an error, out of
-    /// memory, nothing has changed.
-    fn find(
+    /// A worker is offered the chunk that is free for what it wants. On an error, out of memory,
+    /// nothing has changed.
+    fn take_free(
         &mut self,
         alloc: Global,
         worker: &mut WorkerPage<A::Run>,
-        search: ChunkSearch,
-        view: ServerView,
-        now: u64,
+        looker: Looker,
+        wanted: Wanted,
+        free: FreeChunk,
     ) -> Result<Found, AllocError>
         requires may { MayTake worker.old self.old.output.book.setting.output }
-        requires own { search.worker ≡ worker.old.worker }
-        ensures found { IfOk result (λ found. HasFound found self.old view search now self.new) }
+        requires own { looker.search.worker ≡ worker.old.worker }
+        requires free { Some free
+            ≡ option_map live_free_chunk (free_for self.old wanted looker.now) }
+        ensures found { IfOk result (λ found. IfSome (free_for self.old wanted looker.now) (λ c.
+            HasFoundFree wanted c found self.old looker.view looker.search looker.now
+            self.new)) }
+        ensures open { IfOk result (λ found. taken_of found ≡ None → self.new ≡ self.old) }
         ensures err { OnErr result (self.new ≡ self.old) }
         ensures takes { IfOk result (λ found. Takes worker.old (taken_of found) worker.new) }
         ensures stays { OnErr result (worker.new ≡ worker.old) }
     {
-        let wanted = self.wanted_for(view, search.chunk_use, now);
-        let Some(offer) = self.offer(wanted, search.worker, now) else {
-            return Ok(Found::Nothing);
-        };
-        if !view.takes(search.chunk_use, &offer) {
+        let offer = self.offer(free, looker.search.worker, looker.now);
+        if !looker.view.takes(looker.search.chunk_use, &offer) {
             return Ok(Found::Passed(offer));
         }
-        match self.state.take_wanted(alloc, worker, wanted, now)? {
+        match self.state.take_wanted(alloc, worker, wanted, looker.now)? {
             Some(chunk) => Ok(Found::Took(PickedChunk { chunk, offer })),
             None => unreachable!(),
+        }
+    }
+
+    /// A worker for which no chunk is free is offered the first one that may be closed. On an error,
+    /// out of memory, it is closed and free.
+    fn take_open(
+        &mut self,
+        alloc: Global,
+        worker: &mut WorkerPage<A::Run>,
+        looker: Looker,
+        wanted: Wanted,
+        number: u64,
+    ) -> Result<Found, AllocError>
+        requires may { MayTake worker.old self.old.output.book.setting.output }
+        requires own { looker.search.worker ≡ worker.old.worker }
+        requires none { free_for self.old wanted looker.now ≡ None }
+        requires open { Some number ≡ option_map (λ c. c.number)
+            (live_first_closing self.old.output.buffer looker.now looker.search.closes) }
+        ensures found { IfOk result (λ found. IfSome
+            (live_first_closing self.old.output.buffer looker.now looker.search.closes) (λ c.
+            HasFoundOpen wanted c found self.old looker.view looker.search looker.now
+            self.new)) }
+        ensures open { IfOk result (λ found. taken_of found ≡ None → self.new ≡ self.old) }
+        ensures err { OnErr result
+            (self.new ≡ locked_flushes self.old looker.now looker.search.closes) }
+        ensures takes { IfOk result (λ found. Takes worker.old (taken_of found) worker.new) }
+        ensures stays { OnErr result (worker.new ≡ worker.old) }
+    {
+        let offer = Offer::of_open(number);
+        if !looker.view.takes(looker.search.chunk_use, &offer) {
+            return Ok(Found::Passed(offer));
+        }
+        self.state.is_sound(); // for the proof
+        closed_is_given(); // for the proof
+        self.flush(looker.now, looker.search.closes);
+        match self.state.take_wanted(alloc, worker, wanted, looker.now)? {
+            Some(chunk) => Ok(Found::Took(PickedChunk { chunk, offer })),
+            None => unreachable!(),
+        }
+    }
+
+    /// What is known of a free chunk before a worker takes it at a moment (milliseconds).
+    fn offer(&self, free: FreeChunk, worker: u16, now: u64) -> Offer
+        ensures number { result.number ≡ free.number }
+        ensures losses { result.losses ≡ free.losses }
+    {
+        let (lost_at, elsewhere) = self.way_of(free.number, worker, now);
+        Offer {
+            number: free.number,
+            losses: free.losses,
+            lost_at,
+            elsewhere,
         }
     }
 

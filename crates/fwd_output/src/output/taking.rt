@@ -3,6 +3,7 @@
 ghost use Rattle.std.specs.Prelude.{◌≡◌, None, option_map, IfOk, IsOk, OnErr, OnOk};
 ghost use Rattle.fwd_chunks.specs.Live.{
   live_carried_chunk,
+  live_first_closing,
   live_free_chunk,
   live_given,
   live_given_for,
@@ -11,7 +12,7 @@ ghost use Rattle.fwd_chunks.specs.Live.{
 };
 
 use super::OutputState;
-use fwd_chunks::{Carried, FreeChunk, Wanted};
+use fwd_chunks::{Carried, FlushKind, FreeChunk, Wanted};
 use std::alloc::{AllocError, Global};
 
 impl OutputState {
@@ -22,6 +23,15 @@ impl OutputState {
             (live_given_for (live_looks self.now.buffer now) wanted) }
     {
         self.buffer.free_chunk(wanted, now)
+    }
+
+    /// The number of the first open chunk that a flush at a moment (milliseconds) closes, if it closes
+    /// any. It stays open, and the greatest moment stays as it was.
+    pub fn first_closing(&self, now: u64, kind: FlushKind) -> Option<u64>
+        ensures { result
+            ≡ option_map (λ c. c.number) (live_first_closing self.now.buffer now kind) }
+    {
+        self.buffer.first_closing(now, kind)
     }
 
     /// Gives a worker the free chunk of the least number at a moment (milliseconds), if there is

@@ -35,10 +35,9 @@ use std::mem;
 use std::sync::Wait;
 
 impl<J: Run> Worker<J> {
-    /// What the worker finds for this use in its output. Only now are chunks closed that are due,
-    /// so that entries go on joining them while all workers are at work, and none that is left open
-    /// a little longer. That it takes for this worker no clause can see through the lock: it is
-    /// tested.
+    /// What the worker finds for this use in its output. Chunks that are due are closed only if it
+    /// takes one of them, so that entries go on joining them while no worker can send them. That it
+    /// takes for this worker no clause can see through the lock: it is tested.
     pub(super) fn look_for<A: Tally<Run = J>, S: Tally, R: Wait>(
         &mut self,
         context: &TurnContext<'_, A, S, R>,

@@ -7,10 +7,10 @@ pub returns-clause-after : goal.returns-clause-after
 returns-clause-after c = grind (arith, common_steps)
 
 pub returns-clause-history : goal.returns-clause-history
-returns-clause-history c = λ s h shows. lost_on s h _ _ c.args.server c.args.now (returns-clause-after c) shows
+returns-clause-history c = λ s h shows. lost_on s h _ _ c.args.server c.args.now (rw (← c.self.view_is) (omega arith)) (returns-clause-after c) shows
 
 pub returns-in_default-clause-after : goal.returns-in_default-clause-after
 returns-in_default-clause-after c = grind (arith, common_steps)
 
 pub returns-in_default-clause-history : goal.returns-in_default-clause-history
-returns-in_default-clause-history c = λ s h shows. lost_on s h _ _ c.args.server c.args.now (returns-in_default-clause-after c) shows
+returns-in_default-clause-history c = λ s h shows. lost_on s h _ _ c.args.server c.args.now (rw (← c.self.view_is) (omega arith)) (returns-in_default-clause-after c) shows
