@@ -509,7 +509,7 @@ static REFUSED: [Life; 5] = [
     },
 ];
 
-/// A primary that takes each connection and closes it behind a chunk, and its standby.
+/// A primary that closes each connection behind a chunk, and its standby. Two of its losses count.
 static CLOSING: [Life; 1] = [Life {
     name: "what a primary lost goes by its standby, though the primary's wait is over",
     requests: 4,
@@ -530,7 +530,6 @@ static CLOSING: [Life; 1] = [Life {
         ]),
         None,
     ],
-    // The second loss falls into the wait after the first, so the third one doubles that once.
     looks: [2799, 2800, 2801],
     ..PLAIN
 }];
