@@ -62,7 +62,7 @@ def test_silent(relay, next_hop):
     within("another monitor has the page after, s", time.monotonic() - start, 12, 60)
     judge(monitors, 9, 13)
     judge(strangers, 29, 34)
-    assert one.lines("source closed: ") == len(strangers)
+    one.until(lambda: one.lines("source closed: ") == len(strangers), "the journal does not say who was closed")
     with Source(one.port, key=KEY) as other:
         other.ask()
     good.ask()
