@@ -530,7 +530,7 @@ static CLOSING: [Life; 1] = [Life {
         ]),
         None,
     ],
-    looks: [2799, 2800, 2801],
+    looks: [2900, 2901, 2902],
     ..PLAIN
 }];
 
