@@ -34,7 +34,7 @@
  * The board's word AHEAD is by how many seconds the monotonic clock is ahead of the system's. SLEEPS is how many milliseconds a
  * wait of 100 takes, where it is not 0: so long is the longest wait of a thread of the program, and a wake that was lost is not
  * made up for then. PAUSE is how many microseconds a reader's wake of another thread takes more: it loses its core behind it,
- * and the other one goes on.
+ * and the other one goes on. SLOW is how many microseconds it takes more to accept a connection, as on a machine that is busy.
  *
  * A reader may lose its core at any instruction. WHO is 1 if the main thread is to, and 2 if another reader is. Once it wakes
  * behind ARMED was set, it stops STEP instructions behind the call of number CALL: the wait that it woke from is number 0, and
@@ -66,7 +66,8 @@
 /* Words of the board; shim.py has their names in this order. */
 enum word { ON, CALLS, SHORT_READ, SHORT_WRITE, WAIT_READ, WAIT_WRITE, CUT_READ, CUT_WRITE, RESET_READ, RESET_WRITE, REFUSED,
     NO_PORT, NO_SOCKET, NO_ACCEPT, ABORTED, CUT_ACCEPT, CUT_WAIT, REQUESTS, NO_MEMORY, BREAK, BROKEN, BREAK_FIRST,
-    AHEAD, SLEEPS, PAUSE, WHO, CALL, STEP, ARMED, STOPPED, GO, PASSED, STEPS, SLEEPING, WORDS };
+    AHEAD, SLEEPS, PAUSE, WHO, CALL, STEP, ARMED, STOPPED, GO, PASSED, STEPS, SLEEPING, SLOW,
+    WORDS };
 
 /* How often of 65,536 draws. */
 enum {
@@ -347,6 +348,8 @@ int accept4(int fd, struct sockaddr *from, socklen_t *length, int flags) {
         }
     }
     int taken = real(fd, from, length, flags);
+    useconds_t slow = (useconds_t)atomic_load(&board[SLOW]);
+    if (slow && taken >= 0 && is_stream(fd)) usleep(slow);
     know(taken);
     if (taken >= 0 && taken < MOST) atomic_store(&known[taken].is_taken, 1);
     return taken;

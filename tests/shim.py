@@ -11,7 +11,7 @@ from typing import NamedTuple
 SOURCE = pathlib.Path(__file__).resolve().with_name("shim.c")
 WORDS = """on calls short-read short-write wait-read wait-write cut-read cut-write reset-read reset-write
 connect-refused no-port no-socket no-accept aborted cut-accept cut-wait requests no-memory break broken break-first
-ahead sleeps pause who call step armed stopped go passed steps sleeping""".split()
+ahead sleeps pause who call step armed stopped go passed steps sleeping slow""".split()
 FAILURES = [word for word in WORDS[2:] if word not in ("requests", *WORDS[WORDS.index("break") :])]
 
 

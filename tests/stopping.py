@@ -1,11 +1,21 @@
 """A relay that can be asked to stop, and what asks it."""
 
+import re
 import subprocess
 from typing import NamedTuple
 
 from relay import DEADLINE, Relay
 
 LEFT = 6  # the status where entries are left
+LINE = r"left (\d+) entries, (\d+) of sources that do not ask(?:; (\d+) sources .+)?"  # the last answer then
+
+
+class Left(NamedTuple):
+    """What a stop says that it left."""
+
+    entries: int
+    silent: int  # how many of these are of sources that do not ask
+    sources: int  # how many were not read to the end
 
 
 class Asked(NamedTuple):
@@ -45,3 +55,12 @@ def answer_of(asked):
     """What came of a call that asks, once it has ended."""
     told, errors = asked.communicate(timeout=DEADLINE)
     return Asked((told or "").splitlines(), errors, asked.returncode)
+
+
+def left_of(asked):
+    """What a stop says that it left."""
+    said = asked.told[-1] if asked.told else ""
+    found = re.fullmatch(LINE, said)
+    assert found, f"it said {said!r}, status {asked.status}"
+    assert (asked.status, asked.errors) == (LEFT, f"{said}\n")
+    return Left(*(int(number or 0) for number in found.groups()))

@@ -39,6 +39,11 @@ REFUSED = {
         2,
         ["relay.listen is refused", ADDRESS, "no name is looked up: ", '"TLS and names"'],
     ),
+    "a path with a zero byte": (
+        '[relay]\ncontrol = "run\\u0000control"\n' + BOTH,
+        2,
+        ["relay.control is refused", "a path of 1 to 107 bytes without a zero byte"],
+    ),
     "no port": ('[relay]\nmonitor = "127.0.0.1"\n' + BOTH, 2, ["relay.monitor is refused", ADDRESS]),
     "a server's name": (
         BOTH.replace("192.0.2.1", "logs.example"),

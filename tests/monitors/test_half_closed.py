@@ -10,9 +10,9 @@ TRIES = 30
 
 
 @pytest.mark.quick
-@pytest.mark.parametrize("target", ["/", "/metrics"])
+@pytest.mark.parametrize("target", ["/", "/ready", "/metrics"])
 def test_who_closes_its_side(relay, next_hop, target):
-    """The page comes whole each time, whether the end comes with the request or behind it."""
+    """The reply comes whole each time, whether the end comes with the request or behind it."""
     one = relay([{"servers": [next_hop().port]}], metrics=True)
     for _ in range(TRIES):
         with connect(one.monitor) as stream:

@@ -2,9 +2,11 @@
 
 import shutil
 import subprocess
+import time
 
 import pytest
 
+import loggers
 from booted import Booted
 from documents import TOP
 from forward import Source
@@ -33,16 +35,23 @@ def journal(booted):
     return booted.run("journalctl", "--unit=forward_relay", "--output=cat", "--no-pager")
 
 
+def installed(booted, program, hop, given, change=""):
+    """The port of the package's service, once it listens, by its settings with a change; it sends what it gets to a server."""
+    script = ["sh", "packaging/deb.sh", given]
+    subprocess.run(script, cwd=TOP, env={"PATH": "/usr/bin:/bin", "RELAY": program}, check=True, stdout=subprocess.PIPE)
+    booted.run("sh", "-c", "dpkg --no-triggers --install /mnt/*.deb")
+    (port,) = free_ports(1)
+    booted.run("sed", "-i", f"s/:24224/:{port}/; s/:24225/:{hop.port}/; {change}", SETTINGS)
+    booted.run("systemctl", "start", "forward_relay")
+    until(lambda: "listening: sources" in journal(booted), lambda: journal(booted))
+    return port
+
+
 @pytest.mark.minutes
 def test_restart(booted, program, next_hop, tmp_path):
     """What a source sent that never asks is delivered before the relay ends, though the settings are refused by then."""
-    script = ["sh", "packaging/deb.sh", tmp_path / "given"]
-    subprocess.run(script, cwd=TOP, env={"PATH": "/usr/bin:/bin", "RELAY": program}, check=True, stdout=subprocess.PIPE)
-    booted.run("sh", "-c", "dpkg --no-triggers --install /mnt/*.deb")
-    hop, (port,) = next_hop(answer=hold), free_ports(1)
-    booted.run("sed", "-i", f"s/:24224/:{port}/; s/:24225/:{hop.port}/", SETTINGS)
-    booted.run("systemctl", "start", "forward_relay")
-    until(lambda: "listening: sources" in journal(booted), lambda: journal(booted))
+    hop = next_hop(answer=hold)
+    port = installed(booted, program, hop, tmp_path / "given", "s/^window = .*/window = 1/")
     assert booted.run("stat", "-c", "%U %a", "/run/forward_relay/relay.toml") == "_forward_relay 400\n"
     with Source(port) as source:
         source.send("app", [(1, {"n": 0})])
@@ -59,3 +68,29 @@ def test_restart(booted, program, next_hop, tmp_path):
     assert "stopped: all is delivered" in journal(booted)
     until(lambda: booted.run("systemctl", "is-active", "forward_relay", may_fail=True) == "failed\n", "it does not end")
     assert booted.run("ls", "/run").split().count("forward_relay") == 0
+
+
+@pytest.mark.minutes
+def test_restarts_under_loggers(booted, program, next_hop, build_go, needed, tmp_path):
+    """Six restarts under loggers that write in bursts and never ask: all comes, but for at most a line a restart of each.
+
+    It is the line that a logger of Go wrote while the relay closed its connection. Python's loses none.
+    """
+    hop = next_hop()
+    clients = {}
+    try:
+        port = installed(booted, program, hop, tmp_path / "given")
+        clients |= loggers.begin(build_go, needed, TOP / "tests/stop/client.go", port)
+        for _ in range(6):
+            time.sleep(1)
+            booted.run("systemctl", "restart", "forward_relay")
+        time.sleep(1)
+        counts = {name: client.end() for name, client in clients.items()}
+    finally:
+        for client in clients.values():
+            client.kill()
+    booted.run("systemctl", "stop", "forward_relay")
+    lost = loggers.missing(clients, hop, counts)
+    print(f"missing {lost} of {counts}")
+    assert lost["python"] == 0 and all(number <= 6 for number in lost.values()), f"missing {lost} of {counts}"
+    assert journal(booted).count("stopped: all is delivered") == 7, journal(booted)

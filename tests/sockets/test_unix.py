@@ -125,7 +125,7 @@ def test_a_stop(listening, next_hop):
 
 @pytest.mark.parametrize("chunk", [None, "late"])
 def test_what_comes_after_the_end(listening, next_hop, chunk):
-    """A source that is told that no more comes, and sends on: that is taken, unless it asks; then it is cut off."""
+    """A source that is told that no more comes, and sends on: that is taken, and not acknowledged; then its writes fail."""
     hop = next_hop()
     one = listening(hop)
     source = Source(one.unix)
@@ -137,7 +137,7 @@ def test_what_comes_after_the_end(listening, next_hop, chunk):
         while True:
             source.send(chunk=chunk)
     assert answer_of(asking).status == 0
-    assert hop.count() >= 2 if chunk is None else hop.count() == 1
+    assert hop.count() >= 2
     assert not one.unix.exists()
 
 

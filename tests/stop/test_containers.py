@@ -1,6 +1,5 @@
 """packaging/container.sh: the image in Debian's docker.io, and a relay behind Docker's own log driver."""
 
-import collections
 import io
 import os
 import pathlib
@@ -11,6 +10,7 @@ import time
 
 import pytest
 
+import loggers
 from documents import TOP, blocks, text_of
 from forward import HOST, Source
 from relay import free_ports, settings, until
@@ -18,7 +18,11 @@ from relay import free_ports, settings, until
 pytestmark = pytest.mark.minutes
 
 LINES = 400
-COMMAND = f"i=0; while [ $i -lt {LINES} ]; do echo line $i; i=$((i+1)); busybox usleep 20000; done; busybox sleep 5"
+STOPS = 4
+COMMAND = "i=0; while [ $i -lt {} ]; do echo line $i; i=$((i+1)); {} done; /bin/busybox sleep 5"
+PAUSE = "/bin/busybox usleep {};"
+STEADY = COMMAND.format(LINES, PAUSE.format(20_000))
+BURSTS = COMMAND.format(50 * LINES, f"[ $((i % 50)) != 0 ] || {PAUSE.format(50_000)}")
 
 
 class Engine:
@@ -99,30 +103,73 @@ def imported(engine, program, folder):
     return command.split()[-1]
 
 
-def test_the_image(engine, program, next_hop, tmp_path):
-    """A relay in a container takes requests, and `stop` in it loses nothing; the same files make the same bytes."""
-    image = imported(engine, program, tmp_path)
-    hop = next_hop()
+def contained(engine, program, hop, folder, name):
+    """The port of a relay in a container of this name, once it listens. It sends on what it has when it is asked to stop."""
+    image = imported(engine, program, folder)
     port, monitor = free_ports(2)
-    (tmp_path / "set").mkdir()
+    (folder / "set").mkdir()
     keys = {"listen": f"{HOST}:{port}", "monitor": f"{HOST}:{monitor}", "control": "/run/control"}
-    path = tmp_path / "set/relay.toml"
+    path = folder / "set/relay.toml"
     path.write_text(settings(keys, [{"servers": [hop.port], "flush_interval": 86_400_000}]))
     path.chmod(0o644)
-    tmp_path.chmod(0o755)
-    (tmp_path / "set").chmod(0o755)
-    words = ["--detach", "--init", "--name", "relay", "--network=host"]
+    folder.chmod(0o755)
+    (folder / "set").chmod(0o755)
+    words = ["--detach", "--init", "--name", name, "--network=host"]
     engine.run("run", *words, "--volume", f"{path.parent}:/etc/forward_relay:ro", image)
-    until(lambda: "listening: monitors" in engine.ran("logs", "relay").stderr, lambda: engine.ran("logs", "relay"))
-    with Source(port) as source:
+    await_starts(engine, name, 1)
+    return port
+
+
+def await_starts(engine, name, count):
+    """Waits until a container's relay has begun to listen so many times."""
+    said = lambda: engine.ran("logs", name).stderr
+    until(lambda: said().count("listening: monitors") == count, said)
+
+
+def stopped(engine, name):
+    """Asks a container's relay to stop, which has to deliver all: what came of it."""
+    asked = engine.ran("exec", name, "forward_relay", "stop", "/etc/forward_relay/relay.toml")
+    assert asked.returncode in (0, 137)  # the container ends with the relay, and may take the call with it
+    assert engine.run("wait", name) == "0\n", engine.ran("logs", name).stderr
+    return asked
+
+
+def test_the_image(engine, program, next_hop, tmp_path):
+    """A relay in a container takes requests, and `stop` in it loses nothing; the same files make the same bytes."""
+    hop = next_hop()
+    with Source(contained(engine, program, hop, tmp_path, "relay")) as source:
         for number in range(100):
             source.send(entries=[(1, {"n": number})])
-        asked = engine.ran("exec", "relay", "forward_relay", "stop", "/etc/forward_relay/relay.toml")
+        asked = stopped(engine, "relay")
     assert asked.stdout.splitlines()[-1] == "all is delivered"
-    assert asked.returncode in (0, 137)  # the container ends with the relay, and may take the call with it
     assert [record["n"] for _, _, record in hop.entries()] == list(range(100))
-    assert engine.run("wait", "relay") == "0\n"
     assert "stopped: all is delivered" in engine.ran("logs", "relay").stderr
+
+
+def test_restarts_under_loggers(engine, program, next_hop, build_go, needed, tmp_path):
+    """Six restarts of a container under loggers that never ask: all comes, but for at most a line a restart of each.
+
+    It is the line that a logger of Go wrote while the relay closed its connection. Python's loses none.
+    """
+    hop = next_hop()
+    port = contained(engine, program, hop, tmp_path, "restarted")
+    clients = loggers.begin(build_go, needed, TOP / "tests/stop/client.go", port)
+    try:
+        for start in range(6):
+            time.sleep(1)
+            stopped(engine, "restarted")
+            engine.run("start", "restarted")
+            await_starts(engine, "restarted", start + 2)
+        time.sleep(1)
+        counts = {name: client.end() for name, client in clients.items()}
+    finally:
+        for client in clients.values():
+            client.kill()
+    stopped(engine, "restarted")
+    lost = loggers.missing(clients, hop, counts)
+    print(f"missing {lost} of {counts}")
+    assert lost["python"] == 0 and all(number <= 6 for number in lost.values()), f"missing {lost} of {counts}"
+    assert engine.ran("logs", "restarted").stderr.count("stopped: all is delivered") == 7
 
 
 def test_a_signal_ends_it_with_init(engine, program, tmp_path):
@@ -183,32 +230,62 @@ def test_no_relay_at_the_start(engine, busybox, removed):
         assert (ran.returncode == 0) == way.endswith("true"), ran.stderr
 
 
+def logged(engine, busybox, one, hop, ways, command, ends):
+    """Containers log, each in one of these ways of the driver, while a relay ends in some way four times, and starts again.
+
+    It gives, for each way, the numbers of the lines that a server got.
+    """
+    for way in ways:
+        engine.run("run", *logging(way, one.port), busybox, "/bin/busybox", "sh", "-c", command)
+    for _ in range(STOPS):
+        time.sleep(1.5)
+        ends()
+        one.start()
+    for way in ways:
+        engine.run("wait", way)
+    time.sleep(3)
+    assert one.stop(60).status == 0
+    came = {way: set() for way in ways}
+    for tag, _, record in hop.entries():
+        came[tag].add(int(record["log"].removeprefix("line ")))
+    return came
+
+
 @pytest.mark.parametrize("how", ["stop", "kill"])
 def test_the_log_driver(engine, busybox, stoppable, next_hop, removed, how):
     """Containers that log, each in one way of Docker's `fluentd` driver, with a relay that ends and starts meanwhile.
 
-    Every line comes of those that ask. Of the others a line may be missing that was written between the last look at
-    its connection and the close of a stop: microseconds. A kill loses what they have under way.
+    Every line comes of those that ask. Of the others a line may be missing that was written while the relay closed its
+    connection: microseconds. A kill loses what they have under way.
     """
     hop = next_hop()
     outputs = [{"match": "true.**", "flush_interval": 5}, {"flush_interval": 86_400_000 if how == "stop" else 0}]
     one = stoppable([output | {"servers": [hop.port], "full": "wait"} for output in outputs])
-    for way in WAYS:
-        words = logging(way, one.port)
-        engine.run("run", *words, busybox, "/bin/busybox", "sh", "-c", COMMAND.replace("busybox", "/bin/busybox"))
-    for _ in range(4):
-        time.sleep(1.5)
+
+    def ends():
         assert one.kill() < 0 if how == "kill" else one.stop(60).status == one.ended() == 0
-        one.start()
-    for way in WAYS:
-        engine.run("wait", way)
-    time.sleep(3)
-    assert one.stop(60).status == 0
-    came = collections.defaultdict(set)
-    for tag, _, record in hop.entries():
-        came[tag].add(record["log"])
-    missing = {way: [n for n in range(LINES) if f"line {n}" not in came[way]] for way in WAYS}
-    print(f"missing: {missing}")
+
+    missing = lines_without(logged(engine, busybox, one, hop, WAYS, STEADY, ends), LINES)
     for way in WAYS:
         most = 0 if way.startswith("true") else 1 if how == "stop" else LINES
         assert len(missing[way]) <= most, missing
+
+
+def test_the_log_driver_in_bursts(engine, busybox, stoppable, next_hop, removed):
+    """Containers that log in bursts without asking, with a relay that is stopped and starts: at most a line a stop is missing."""
+    hop = next_hop()
+    one = stoppable([{"servers": [hop.port], "flush_interval": 86_400_000}])
+
+    def ends():
+        assert one.stop(60).status == one.ended() == 0
+
+    ways = [way for way in WAYS if way.startswith("false")]
+    missing = lines_without(logged(engine, busybox, one, hop, ways, BURSTS, ends), 50 * LINES)
+    assert all(len(numbers) <= STOPS for numbers in missing.values()), missing
+
+
+def lines_without(came, count):
+    """For each way, the numbers of the lines up to a count that did not come."""
+    missing = {way: [number for number in range(count) if number not in numbers] for way, numbers in came.items()}
+    print({way: f"{len(numbers)} of {count} missing" for way, numbers in missing.items()})
+    return missing

@@ -1,11 +1,13 @@
 """A relay that is stopped and started again each second, under traffic: what comes, and what does not."""
 
 import itertools
+import pathlib
 import threading
 import time
 
 import pytest
 
+import loggers
 from forward import connect, request
 from traffic import Traffic
 
@@ -89,3 +91,34 @@ def test_each_second_for_a_minute(stoppable, next_hop, readers):
     assert all(source.sent > 50 for source in sources), counts
     for source in sources:
         assert len(missing[source.front]) <= (stops // 10 if source.keeps else 1), missing
+
+
+@pytest.mark.parametrize("readers", [1, 4], ids=["1-reader", "4-readers"])
+def test_loggers_in_bursts(stoppable, next_hop, build_go, needed, readers):
+    """Loggers of Go and Python that never ask, under six stops: at most one line of each connection is missing a stop.
+
+    It is the line that a logger wrote while the relay closed its connection, some microseconds. Python's looks for the end
+    of the relay's side before each line, and loses none.
+    """
+    hop = next_hop()
+    one = stoppable([{"servers": [hop.port], "flush_interval": 86_400_000}], readers=readers)
+    clients = loggers.begin(build_go, needed, pathlib.Path(__file__).with_name("client.go"), one.port)
+    said = []
+    try:
+        for _ in range(6):
+            time.sleep(1)
+            began = time.monotonic()
+            asked = one.stop(20)
+            said.append((asked.told[-1], asked.status, one.ended(), round(time.monotonic() - began, 1)))
+            one.start()
+        time.sleep(1)
+        counts = {name: client.end() for name, client in clients.items()}
+    finally:
+        for client in clients.values():
+            client.kill()
+    assert one.stop(60).status == 0
+    lost = loggers.missing(clients, hop, counts)
+    figures = f"missing {lost} of {counts}; stops: {said}"
+    print(figures)
+    assert lost["python"] == 0 and all(number <= 6 for number in lost.values()), figures
+    assert all(words[:3] == ("all is delivered", 0, 0) for words in said), figures

@@ -13,7 +13,7 @@ import pytest
 from forward import HOST, request
 from next_hop import acknowledge, hold, keep_silent, later
 from relay import free_ports, is_listened_at, steady
-from stopping import LEFT, answer_of
+from stopping import LEFT, answer_of, left_of
 
 pytestmark = pytest.mark.quick
 
@@ -126,7 +126,7 @@ def test_who_asks_is_told(stoppable, next_hop, readers):
 
 
 def test_what_comes_later_stays_unacknowledged(stoppable, next_hop):
-    """A source that is owed an acknowledgement goes on sending: what it sends now is neither told nor sent on."""
+    """A source that is owed an acknowledgement goes on sending: what it sends now is sent on, and not told, so that it sends it again."""
     hop = next_hop(answer=hold)
     one = stoppable([{"servers": [hop.port], "flush_interval": 0}])
     source = one.source()
@@ -141,7 +141,7 @@ def test_what_comes_later_stays_unacknowledged(stoppable, next_hop):
     with pytest.raises(ConnectionError):
         source.told()
     assert answer_of(asking).status == 0
-    assert numbers(hop) == [0]
+    assert numbers(hop) == [0, 1]
 
 
 def test_an_unfinished_request_is_dropped(stoppable, next_hop):
@@ -170,7 +170,7 @@ def test_who_never_reads_holds_nobody_up(stoppable, next_hop, readers):
 
 
 def test_who_takes_nothing_is_waited_for_as_long_as_it_says(stoppable, next_hop):
-    """A source that lets too many acknowledgements wait is not told all: the time is used up, and all is delivered."""
+    """A source that lets too many acknowledgements wait is not told all: the time is used up, and it was not read to its end."""
     hop = next_hop()
     one = stoppable([{"servers": [hop.port], "flush_interval": 10}])
     deaf = one.source()
@@ -184,13 +184,14 @@ def test_who_takes_nothing_is_waited_for_as_long_as_it_says(stoppable, next_hop)
     one.await_page(lambda it: it.accepted > 0 and it.held == 0)
     began = time.monotonic()
     asked = one.stop(2)
-    assert (asked.status, asked.told[-1]) == (0, ALL)
+    assert asked.status == 6
+    assert asked.told[-1] == "left 0 entries, 0 of sources that do not ask; 1 sources not read to the end"
     assert time.monotonic() - began >= 2
 
 
 @both
 def test_who_sends_on_and_on_is_cut_off(stoppable, next_hop, readers):
-    """A source that sends as fast as it can is read to a bound, and the stop comes to its end."""
+    """A source that sends as fast as it can is read to a bound, and the stop comes to its end, and says so."""
     hop = next_hop(take=lambda frame: None)
     one = stoppable([{"servers": [hop.port], "full": "wait", "total_limit": 50_000_000}])
     source = one.source(timeout=60)
@@ -201,7 +202,9 @@ def test_who_sends_on_and_on_is_cut_off(stoppable, next_hop, readers):
     with pytest.raises(OSError):
         while True:
             source.stream.link.sendall(sent)
-    assert answer_of(asking).status == 0
+    asked = answer_of(asking)
+    assert asked.status == 6
+    assert asked.told[-1].endswith("; 1 sources not read to the end")
 
 
 # ---- next hops
@@ -217,10 +220,10 @@ def test_a_next_hop_that_is_away(stoppable, readers):
     began = time.monotonic()
     asked = one.stop(2)
     assert 1.5 < time.monotonic() - began < 20
-    assert (asked.status, asked.errors, asked.told[-1]) == (LEFT, "left 25 entries\n", "left 25 entries")
+    assert left_of(asked)[:2] == (25, 25)
     assert asked.told[0].endswith("1 sources") or "25 entries" in asked.told[0]
     assert one.ended() == LEFT
-    one.await_line("stopped: 25 entries are left")
+    one.await_line("stopped: left 25 entries, 25 of sources that do not ask")
 
 
 @both
@@ -377,8 +380,7 @@ def test_a_second_one_shortens_the_wait(stoppable, next_hop):
     one.await_line("stopping: asked, 4 entries held")
     short = one.ask(1)
     for asking in (short, first, long):
-        asked = answer_of(asking)
-        assert (asked.status, asked.told[-1]) == (LEFT, "left 4 entries")
+        assert left_of(answer_of(asking))[:2] == (4, 4)
     assert one.ended() == LEFT
     assert one.lines("stopping:") == 1
 

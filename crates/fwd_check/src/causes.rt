@@ -9,6 +9,7 @@ use crate::key_lines::{line_at, line_of, value_at};
 use crate::key_tables::{allowed_in, kind_of, parent_of, table_having};
 use crate::mending::next_fault;
 use crate::saying::say;
+use fwd_listeners::{listen_at, remove_socket};
 use fwd_match::{Pattern, PatternFault};
 use fwd_monitors::StartFault;
 use fwd_peers::{PeerAddress, SocketPath};
@@ -16,11 +17,11 @@ use fwd_settings::SettingsFault;
 use fwd_settings::ranges::SERVERS_MAX;
 use fwd_settings::tables::Allowed;
 use std::alloc::Global;
+use std::fs::File;
 use std::io::Write;
 use std::net::{Net, TcpListener};
-use std::os::unix::net::UnixListener;
 use std::rt::Files;
-use std::{fmt, fs, io};
+use std::{fmt, io};
 use toml::{Table, de};
 
 /// The most faults of a text that are told: to find the line of each, the text is read over and
@@ -286,40 +287,44 @@ pub fn say_refused<E: Write>(
 
 /// Says why an address could not be listened at, or a control socket not be had, if a relay did not
 /// start for that.
-pub fn say_unheard<R: Net + Files, E: Write>(rt: &R, fault: &StartFault, errors: &mut E) {
+pub fn say_unheard<R: Net + Files<File = File>, E: Write>(
+    rt: &R,
+    fault: &StartFault,
+    errors: &mut E,
+) {
     match fault {
         StartFault::Listen(address) => {
             let address = *address;
-            if let Err(error) = listen_at(rt, address) {
+            if let Err(error) = try_address(rt, address) {
                 say(errors, &Unheard { address, error });
             }
         }
-        StartFault::Control(path) => say_no_control(rt, *path, errors),
+        StartFault::Control(path) => {
+            let path = *path;
+            if let Err(error) = try_path(rt, path) {
+                say(errors, &NoControl { path, error });
+            }
+        }
         _ => {}
     }
 }
 
 /// Listens at an address for a moment: the only error is the system's.
-fn listen_at<R: Net + Files>(rt: &R, address: PeerAddress) -> io::Result<()> {
+fn try_address<R: Net + Files<File = File>>(rt: &R, address: PeerAddress) -> io::Result<()> {
     match address {
         PeerAddress::Tcp(address) => {
             TcpListener::bind(rt, address)?;
+            Ok(())
         }
-        PeerAddress::Unix(path) => {
-            UnixListener::bind(rt, path.as_str())?;
-            let _ = fs::remove_file(rt, path.as_str());
-        }
+        PeerAddress::Unix(path) => try_path(rt, path),
     }
-    Ok(())
 }
 
-/// Says why a control socket cannot be had at a path: where another relay has it, or it is no
-/// socket, that the path is in use.
-fn say_no_control<R: Net + Files, E: Write>(rt: &R, path: SocketPath, errors: &mut E) {
-    match UnixListener::bind(rt, path.as_str()) {
-        Ok(_) => {
-            let _ = fs::remove_file(rt, path.as_str());
-        }
-        Err(error) => say(errors, &NoControl { path, error }),
-    }
+/// Listens at a path for a moment, as the relay does. Where another relay has it, or it is no
+/// socket, the path is in use.
+fn try_path<R: Net + Files<File = File>>(rt: &R, path: SocketPath) -> io::Result<()> {
+    let (listener, file) = listen_at(rt, path)?;
+    drop(listener);
+    remove_socket(rt, file);
+    Ok(())
 }

@@ -6,6 +6,7 @@ ghost use Rattle.fwd_script.specs.declared.status.Status.TheVariants as statuses
 ghost use Rattle.fwd_journal.specs.RunEnds.{ended_by, run_code};
 ghost use Rattle.fwd_journal.specs.declared.ending.RunEnd.TheVariants as ends;
 
+use fwd_listeners::Left;
 use fwd_monitors::StartFault;
 use fwd_script::{Status, WriteFailed};
 use fwd_settings::SettingsFault;
@@ -19,12 +20,12 @@ pub enum RunEnd {
     Ran(Status),
     /// The relay could not start, or not go on.
     Start(StartFault),
-    /// It was asked to stop, and when its time was over so many entries were left.
-    Left(u64),
+    /// It was asked to stop, and this was left in the end.
+    Left(Left),
 }
 
 impl RunEnd {
-    /// The exit status: 4 where the relay could not start, and 6 where entries are left.
+    /// The exit status: 4 where the relay could not start, and 6 where something is left.
     pub fn exit_code(&self) -> u8
         ensures { result ≡ run_code self.now }
     {
@@ -85,7 +86,7 @@ impl fmt::Display for RunEnd {
         match self {
             RunEnd::Ran(status) => write!(f, "{status}"),
             RunEnd::Start(fault) => write!(f, "{fault}"),
-            RunEnd::Left(entries) => write!(f, "left {entries} entries"),
+            RunEnd::Left(left) => write!(f, "{left}"),
         }
     }
 }

@@ -214,7 +214,7 @@ impl fmt::Display for Stopped<'_> {
         match self.ran {
             Ok(Ending::Turns) => f.write_str("stopped: all turns are made"),
             Ok(Ending::Delivered) => f.write_str("stopped: all is delivered"),
-            Ok(Ending::Left(entries)) => write!(f, "stopped: {entries} entries are left"),
+            Ok(Ending::Left(left)) => write!(f, "stopped: {left}"),
             Err(end) => write!(f, "stopped: {end}"),
         }
     }

@@ -11,6 +11,8 @@ struct Flags {
     is_stopped: AtomicBool,
     /// The relay was asked to stop: readers read what is under way alone, and close all chunks.
     is_draining: AtomicBool,
+    /// How many sources were closed since, before they were read to their end.
+    cut: AtomicUsize,
     /// How many workers have given back the memory that they keep in reserve.
     lacking: AtomicUsize,
     /// How many readers read sources, and take memory for what they send.
@@ -36,6 +38,7 @@ impl SharedFlags {
         let flags = Flags {
             is_stopped: AtomicBool::new(false),
             is_draining: AtomicBool::new(false),
+            cut: AtomicUsize::new(0),
             lacking: AtomicUsize::new(0),
             reading: AtomicUsize::new(0),
             tight: AtomicUsize::new(0),
@@ -69,6 +72,16 @@ impl SharedFlags {
     /// Whether the relay was asked to stop.
     pub fn is_draining(&self) -> bool {
         self.flags.is_draining.load(Ordering::SeqCst)
+    }
+
+    /// A source of a relay that was asked to stop is closed before it was read to its end.
+    pub fn cut(&self) {
+        self.flags.cut.fetch_add(1, Ordering::SeqCst);
+    }
+
+    /// How many sources were closed so.
+    pub fn cuts(&self) -> usize {
+        self.flags.cut.load(Ordering::SeqCst)
     }
 
     /// A worker is to give back the memory that it keeps in reserve: no reader reads a further

@@ -1,9 +1,10 @@
 //! The control socket: over it the relay is asked to stop, and nothing else. Its file's mode says
-//! who may connect. What comes there costs no other connection more than a few reads: all of its
-//! connections together are read once in a turn, and only if the system told of one.
+//! who may connect. What comes there costs the relay a bounded number of calls a turn, and only if
+//! the system told of some: it has few connections, and each that comes is read at once, with the
+//! others read once more where one of them has to go for it.
 
 use crate::control_text::{ANSWER, ControlAnswer, REQUEST, asked_wait};
-use crate::socket_file::make_room;
+use crate::socket_file::{SocketFile, listen_at, remove_socket};
 use crate::tokens::CONTROL;
 use arrayvec::ArrayString;
 use fwd_monitors::StartFault;
@@ -12,13 +13,15 @@ use mio::net::{UnixListener, UnixStream};
 use mio::{Interest, Poll, Registry};
 use std::alloc::Global;
 use std::fmt::Write as _;
+use std::fs::File;
 use std::io::{ErrorKind, Read, Write};
 use std::net::Net;
 use std::os::unix::io::IntoRawFd;
 use std::rt::Files;
-use std::{fs, io, mem};
+use std::{io, mem};
 
-/// The most connections at a time. One more takes the place of the first that has asked nothing.
+/// The most connections at a time. One more takes the place of the first that has asked nothing, by
+/// what it sent until then.
 const PEERS: usize = 8;
 
 /// The most connections that are taken in a turn.
@@ -47,8 +50,22 @@ struct ControlPeer {
 }
 
 impl ControlPeer {
-    /// Reads what is there, and says what it asks for: also one that has closed may have asked.
+    /// One that connects.
+    fn new(stream: UnixStream) -> ControlPeer {
+        ControlPeer {
+            stream,
+            line: [0; REQUEST],
+            len: 0,
+            has_asked: false,
+        }
+    }
+
+    /// Reads what is there, and says what it asks for: also one that has closed may have asked. One
+    /// that asked is read no more: it may end its side, and waits for answers all the same.
     fn hear(&mut self) -> Heard {
+        if self.has_asked {
+            return Heard::Nothing;
+        }
         for _ in 0..REQUEST {
             let Some(room) = self.line.get_mut(self.len..) else {
                 return Heard::Over;
@@ -86,7 +103,6 @@ impl ControlPeer {
             return Heard::Nothing;
         }
         match asked_wait(line) {
-            Some(_) if self.has_asked => Heard::Nothing,
             Some(wait) => {
                 self.has_asked = true;
                 Heard::Asks(wait)
@@ -95,11 +111,24 @@ impl ControlPeer {
         }
     }
 
-    /// Tells it an answer, where it asked and its stream takes that.
-    fn tell(&mut self, line: &str) {
-        if self.has_asked {
-            let _ = self.stream.write(line.as_bytes());
+    /// Tells it an answer, if it asked: whether it stays, since it may be gone.
+    fn tell(&mut self, line: &str) -> bool {
+        if !self.has_asked {
+            return true;
         }
+        match self.stream.write(line.as_bytes()) {
+            Ok(_) => true,
+            Err(error) => matches!(error.kind(), ErrorKind::WouldBlock | ErrorKind::Interrupted),
+        }
+    }
+}
+
+/// The less of two times, if there are any.
+fn sooner(one: Option<u64>, other: Option<u64>) -> Option<u64> {
+    match (one, other) {
+        (Some(one), Some(other)) => Some(one.min(other)),
+        (Some(wait), None) | (None, Some(wait)) => Some(wait),
+        (None, None) => None,
     }
 }
 
@@ -107,7 +136,7 @@ impl ControlPeer {
 #[derive(Drop)]
 pub struct Control {
     listener: UnixListener,
-    path: SocketPath,
+    file: SocketFile,
     peers: Vec<ControlPeer>,
     /// The system told of one of these since they were looked at.
     is_called: bool,
@@ -116,20 +145,17 @@ pub struct Control {
 impl Control {
     /// Listens at a path, and has the wait tell of it. A socket that an earlier relay left there is
     /// replaced. It fails with `Control` where that cannot be, as where another relay answers.
-    pub fn open<R: Net + Files>(
+    pub fn open<R: Net + Files<File = File>>(
         rt: &R,
         alloc: Global,
         poll: &Poll,
         path: SocketPath,
     ) -> Result<Control, StartFault> {
         let peers = Vec::with_capacity(alloc, PEERS)?;
-        if !make_room(rt, path.as_str()) {
-            return Err(StartFault::Control(path));
-        }
-        match Control::listen(rt, poll, path.as_str()) {
-            Ok(listener) => Ok(Control {
+        match Control::listen(rt, poll, path) {
+            Ok((listener, file)) => Ok(Control {
                 listener,
-                path,
+                file,
                 peers,
                 is_called: false,
             }),
@@ -137,12 +163,16 @@ impl Control {
         }
     }
 
-    /// A listener that the wait tells of.
-    fn listen<R: Net + Files>(rt: &R, poll: &Poll, path: &str) -> io::Result<UnixListener> {
-        let mut listener = UnixListener::bind(rt, path)?;
+    /// A listener that the wait tells of, and its file.
+    fn listen<R: Net + Files<File = File>>(
+        rt: &R,
+        poll: &Poll,
+        path: SocketPath,
+    ) -> io::Result<(UnixListener, SocketFile)> {
+        let (mut listener, file) = listen_at(rt, path)?;
         poll.registry()
             .register(&mut listener, CONTROL, Interest::READABLE)?;
-        Ok(listener)
+        Ok((listener, file))
     }
 
     /// The system told that somebody connects, or sent something.
@@ -150,58 +180,73 @@ impl Control {
         self.is_called = true;
     }
 
-    /// Takes who connects, and reads what was sent: within how long the relay is asked to stop, in
+    /// Reads what was sent, and takes who connects: within how long the relay is asked to stop, in
     /// milliseconds, if it is; the least where several ask.
     pub fn asked(&mut self, registry: &Registry) -> Option<u64> {
         if !mem::replace(&mut self.is_called, false) {
             return None;
         }
-        self.accept(registry);
-        let mut least = None;
-        for place in (0..self.peers.len()).rev() {
-            if let Some(wait) = self.hear(place) {
-                least = Some(least.map_or(wait, |other: u64| other.min(wait)));
-            }
-        }
-        least
+        let heard = self.hear_all();
+        sooner(heard, self.accept(registry))
     }
 
-    /// Takes who connects. Where some are left, or the system gives none for now, they are looked
-    /// at again in the next turn.
-    fn accept(&mut self, registry: &Registry) {
+    /// Takes who connects: within how long they ask the relay to stop, if they do. Where some are
+    /// left, or the system gives none for now, they are looked at again in the next turn.
+    fn accept(&mut self, registry: &Registry) -> Option<u64> {
+        let mut least = None;
         for _ in 0..ACCEPTS {
             match self.listener.accept() {
-                Ok((stream, _)) => self.add(registry, stream),
-                Err(error) if error.kind() == ErrorKind::WouldBlock => return,
+                Ok((stream, _)) => least = sooner(least, self.take(registry, stream)),
+                Err(error) if error.kind() == ErrorKind::WouldBlock => return least,
                 Err(_) => break,
             }
         }
         self.is_called = true;
+        least
     }
 
-    /// One more is connected. Where too many are, the first goes that has asked nothing, or this
-    /// one.
-    fn add(&mut self, registry: &Registry, stream: UnixStream) {
+    /// Takes one that connects, and reads it at once. Where too many are connected all are read
+    /// before one of them goes: within how long any of these asks the relay to stop.
+    fn take(&mut self, registry: &Registry, stream: UnixStream) -> Option<u64> {
+        let mut heard = None;
         if self.peers.len() >= PEERS {
-            let Some(place) = self.peers.iter().position(|peer| !peer.has_asked) else {
-                return;
-            };
-            self.peers.remove(place);
+            heard = self.hear_all();
+            self.evict();
         }
-        let mut stream = stream;
-        if registry
-            .register(&mut stream, CONTROL, Interest::READABLE)
-            .is_err()
-        {
+        if !self.add(registry, stream) {
+            return heard;
+        }
+        let last = self.peers.len().saturating_sub(1);
+        sooner(heard, self.hear(last))
+    }
+
+    /// Where too many are connected the first goes that has asked nothing.
+    fn evict(&mut self) {
+        if self.peers.len() < PEERS {
             return;
         }
-        // There is room for all.
-        let _ = self.peers.push(ControlPeer {
-            stream,
-            line: [0; REQUEST],
-            len: 0,
-            has_asked: false,
-        });
+        if let Some(place) = self.peers.iter().position(|peer| !peer.has_asked) {
+            self.peers.remove(place);
+        }
+    }
+
+    /// One more is connected, if there is a place for it and the system tells of it: whether it is.
+    fn add(&mut self, registry: &Registry, stream: UnixStream) -> bool {
+        if self.peers.len() >= PEERS {
+            return false;
+        }
+        let mut stream = stream;
+        let registered = registry.register(&mut stream, CONTROL, Interest::READABLE);
+        registered.is_ok() && self.peers.push(ControlPeer::new(stream)).is_ok()
+    }
+
+    /// Reads all connections: within how long they ask the relay to stop, if they do.
+    fn hear_all(&mut self) -> Option<u64> {
+        let mut least = None;
+        for place in (0..self.peers.len()).rev() {
+            least = sooner(least, self.hear(place));
+        }
+        least
     }
 
     /// Reads the connection at a place: within how long it asks the relay to stop, if it does.
@@ -216,31 +261,38 @@ impl Control {
         }
     }
 
-    /// Tells an answer to each that asked.
+    /// Tells an answer to each that asked. Those go that are gone.
     pub fn tell(&mut self, answer: ControlAnswer) {
         let mut line: ArrayString<ANSWER> = ArrayString::new();
         if write!(line, "{answer}\n").is_err() {
             return;
         }
-        for peer in &mut self.peers {
-            peer.tell(line.as_str());
+        for place in (0..self.peers.len()).rev() {
+            let stays = match self.peers.get_mut(place) {
+                Some(peer) => peer.tell(line.as_str()),
+                None => true,
+            };
+            if !stays {
+                self.peers.remove(place);
+            }
         }
     }
 
-    /// The relay is about to end: who asked is told a last answer, if there is one, and the path is
+    /// The relay is about to end: who asked is told a last answer, if there is one, and its file is
     /// removed. The connections stay until the process has ended: so who asked knows that it has.
-    pub fn close<R: Files>(self, rt: &R, answer: Option<ControlAnswer>) {
+    pub fn close<R: Net + Files<File = File>>(self, rt: &R, answer: Option<ControlAnswer>) {
         let mut control = self;
         if let Some(answer) = answer {
             control.tell(answer);
         }
         let Control {
-            listener: _,
-            path,
+            listener,
+            file,
             peers,
             is_called: _,
         } = control;
-        let _ = fs::remove_file(rt, path.as_str());
+        drop(listener);
+        remove_socket(rt, file);
         for peer in peers {
             let _ = peer.stream.into_raw_fd();
         }

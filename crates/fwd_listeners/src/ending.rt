@@ -1,9 +1,10 @@
 //! Why a run ended, and what whoever asked the relay to stop is told of it.
 
-ghost use Rattle.std.specs.Prelude.{◌≡◌, true, All};
+ghost use Rattle.std.specs.Prelude.{◌≡◌, ◌↔◌, true};
+ghost use Rattle.fwd_listeners.specs.Endings.{ending_of, is_nothing};
 
 use crate::control_text::ControlAnswer;
-use fwd_base::Report;
+use crate::left::Left;
 
 /// Why a run ended.
 #[derive(Clone, Copy, Debug, PartialEq, Eq)]
@@ -12,46 +13,32 @@ pub enum Ending {
     Turns,
     /// It was asked to stop, and all is delivered.
     Delivered,
-    /// It was asked to stop, and so many entries are not delivered.
-    Left(u64),
+    /// It was asked to stop, and this is left.
+    Left(Left),
 }
 
 impl Ending {
-    /// What whoever asked is told of it: so many entries are held.
-    pub fn answer(self, held: u64) -> ControlAnswer {
+    /// What whoever asked is told of it, by what is left.
+    pub fn answer(self, left: Left) -> ControlAnswer {
         match self {
             Ending::Delivered => ControlAnswer::Delivered,
-            Ending::Left(entries) => ControlAnswer::Left(entries),
-            Ending::Turns => ControlAnswer::Left(held),
+            Ending::Left(left) => ControlAnswer::Left(left),
+            Ending::Turns => ControlAnswer::Left(left),
         }
     }
 }
 
-/// Whether no output holds anything, by these reports.
-fn are_delivered(reports: &[Report]) -> bool
-    ensures { result ≡ true → All (λ report. report.counts.held ≡ 0) reports.now }
-{
-    reports.iter().all(|report| report.counts.held == 0)
-}
-
-/// How many entries outputs hold, by these reports.
-pub fn left_in(reports: &[Report]) -> u64 {
-    let mut left: u64 = 0;
-    for report in reports {
-        left = left.saturating_add(report.counts.held);
-    }
-    left
-}
-
-/// Why a run ended that was asked to stop or not, by its last reports.
-pub fn ending_of(was_asked: bool, reports: &[Report]) -> Ending
-    ensures { result ≡ Ending.Delivered → All (λ report. report.counts.held ≡ 0) reports.now }
+/// Why a run ended that was asked to stop or not, by what it left.
+pub fn ending_of(was_asked: bool, left: Left) -> Ending
+    ensures value { result ≡ ending_of was_asked left }
+    ensures delivered { (result ≡ Ending.Delivered)
+        ↔ ((was_asked ≡ true) × (is_nothing left ≡ true)) }
 {
     if !was_asked {
         Ending::Turns
-    } else if are_delivered(reports) {
+    } else if left.is_nothing() {
         Ending::Delivered
     } else {
-        Ending::Left(left_in(reports))
+        Ending::Left(left)
     }
 }

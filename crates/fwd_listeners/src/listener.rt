@@ -1,11 +1,12 @@
 //! A listener, and whether connections wait there.
 
-use crate::socket_file::make_room;
+use crate::socket_file::{SocketFile, listen_at};
 use fwd_links::lacks_descriptors;
 use fwd_monitors::StartFault;
-use fwd_peers::{PeerAddress, PeerSocket, SocketPath};
+use fwd_peers::{PeerAddress, PeerSocket};
 use mio::net::{TcpListener, UnixListener};
 use mio::{Interest, Poll, Token};
+use std::fs::File;
 use std::io;
 use std::io::ErrorKind;
 use std::net::Net;
@@ -37,13 +38,14 @@ pub enum Arrival {
 #[derive(Drop)]
 enum ListenerSocket {
     Tcp(TcpListener),
-    Unix(UnixListener),
+    /// With its file.
+    Unix(UnixListener, SocketFile),
 }
 
 impl ListenerSocket {
     /// Listens at an address, and has the wait tell of it by this token. A Unix socket that an
     /// earlier relay left at the path is replaced.
-    fn open<R: Net + Files>(
+    fn open<R: Net + Files<File = File>>(
         rt: &R,
         poll: &Poll,
         address: PeerAddress,
@@ -57,12 +59,18 @@ impl ListenerSocket {
                 Ok(ListenerSocket::Tcp(listener))
             }
             PeerAddress::Unix(path) => {
-                // Where there is no room it fails, since the path is in use.
-                make_room(rt, path.as_str());
-                let mut listener = UnixListener::bind(rt, path.as_str())?;
+                let (mut listener, file) = listen_at(rt, path)?;
                 registry.register(&mut listener, token, Interest::READABLE)?;
-                Ok(ListenerSocket::Unix(listener))
+                Ok(ListenerSocket::Unix(listener, file))
             }
+        }
+    }
+
+    /// Its file, if it has one.
+    fn file(&self) -> Option<SocketFile> {
+        match self {
+            ListenerSocket::Tcp(_) => None,
+            ListenerSocket::Unix(_, file) => Some(*file),
         }
     }
 
@@ -74,7 +82,7 @@ impl ListenerSocket {
                 let _ = stream.set_nodelay(true);
                 Ok((PeerSocket::Tcp(stream), PeerAddress::Tcp(peer)))
             }
-            ListenerSocket::Unix(listener) => {
+            ListenerSocket::Unix(listener, _) => {
                 let (stream, _) = listener.accept()?;
                 Ok((PeerSocket::Unix(stream), own))
             }
@@ -88,6 +96,8 @@ pub struct Listener {
     listener: Option<ListenerSocket>,
     /// Where it listens.
     address: PeerAddress,
+    /// Its file, if it has one, which stays when it is closed.
+    file: Option<SocketFile>,
     calling: Calling,
 }
 
@@ -97,6 +107,7 @@ impl Drop for Listener {
         let Listener {
             listener: _,
             address: _,
+            file: _,
             calling: _,
         } = self;
     }
@@ -104,7 +115,7 @@ impl Drop for Listener {
 
 impl Listener {
     /// Listens at an address, and has the wait tell of it by this token.
-    pub fn open<R: Net + Files>(
+    pub fn open<R: Net + Files<File = File>>(
         rt: &R,
         poll: &Poll,
         address: PeerAddress,
@@ -112,6 +123,7 @@ impl Listener {
     ) -> Result<Listener, StartFault> {
         match ListenerSocket::open(rt, poll, address, token) {
             Ok(listener) => Ok(Listener {
+                file: listener.file(),
                 listener: Some(listener),
                 address,
                 calling: Calling::Quiet,
@@ -125,12 +137,9 @@ impl Listener {
         self.address
     }
 
-    /// The path of its file, if it has one.
-    pub fn path(&self) -> Option<SocketPath> {
-        match self.address {
-            PeerAddress::Tcp(_) => None,
-            PeerAddress::Unix(path) => Some(path),
-        }
+    /// Its file, if it has one: also that of a closed one.
+    pub fn file(&self) -> Option<SocketFile> {
+        self.file
     }
 
     /// The listener told that connections wait.

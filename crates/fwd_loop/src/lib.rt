@@ -11,10 +11,11 @@ mod opening;
 mod outcome;
 mod platform;
 mod relay_loop;
+mod serving;
 mod set_parts;
 mod threads;
 
-pub use fwd_listeners::{ControlAnswer, Ending};
+pub use fwd_listeners::{ControlAnswer, Ending, Left};
 pub use fwd_monitors::{JournalEvent, ListenerKind, MemoryFor, Observer, StartFault};
 pub use fwd_peers::{CloseReason, PeerAddress, SocketPath};
 pub use fwd_turns::{FrontTurns, Turns, close_all};

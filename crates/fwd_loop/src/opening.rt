@@ -8,6 +8,7 @@ use fwd_history::Run;
 use fwd_links::SharedFlags;
 use fwd_match::Routes;
 use fwd_monitors::{PageQueue, SharedTally, StartFault};
+use fwd_output::UnsentRequests;
 use fwd_pools::{WorkerSurroundings, WorkerThread};
 use fwd_reader::{Output, ReaderInbox, ReaderInboxes};
 use fwd_run::ReachedHistory;
@@ -90,6 +91,18 @@ impl<J: Run> Drop for Own<J> {
             others: _,
             workers: _,
         } = self;
+    }
+}
+
+impl<J: Run> Own<J> {
+    /// The relay ends, and no request that waits is admitted any more. What those had, with so many
+    /// entries that outputs hold and nobody sends again.
+    pub fn give_up(&mut self, unasked: u64) -> UnsentRequests {
+        let mut unsent = self.front.event_loop.give_up();
+        for reader in &mut self.others {
+            unsent = unsent.and(reader.event_loop.give_up());
+        }
+        unsent.with_unasked(unasked)
     }
 }
 

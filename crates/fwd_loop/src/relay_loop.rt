@@ -20,37 +20,39 @@ ghost use Rattle.fwd_config.specs.Configs.{parts_known};
 ghost use Rattle.fwd_run.specs.Pages.{page_count};
 ghost use Rattle.fwd_run.specs.Runs.{id_key, last_id, limits_at, routes_at, security_at};
 ghost use Rattle.fwd_settings.specs.Ranges.{in_range};
+ghost use Rattle.fwd_loop.specs.Delivered.{AreEmptied};
 ghost use Rattle.fwd_loop.specs.Loops.{relay_by};
 ghost use Rattle.fwd_pools.specs.Pools.{all_made_of, shown};
 ghost use Rattle.fwd_reader.specs.Ends.{AddUp, AreReportsAfter};
+ghost use Rattle.fwd_turns.specs.Draining.{IsReadOut};
+ghost use Rattle.fwd_turns.specs.declared.draining.DrainSeen.{DrainSeen};
 
 use crate::address::{Address, address_of, control_path_of};
 use crate::opening::{Opened, Own, Shared, open};
 use crate::outcome::{Ended, Outcome};
 use crate::platform::Platform;
+use crate::serving::run_parts;
 use crate::set_parts::{SetParts, parts_of, run_id_of};
-use crate::threads::{Beside, Started};
 use fwd_base::Text;
 use fwd_history::Run;
 use fwd_links::{Mailbox, SharedFlags};
-use fwd_listeners::{Ending, make_room};
+use fwd_listeners::{Ending, remove_socket};
 use fwd_match::Routes;
 use fwd_model::Config;
 use fwd_monitors::{Observer, PageQueue, SharedTally, StartFault};
+use fwd_output::UnsentRequests;
 use fwd_peers::SocketPath;
 use fwd_pools::{RandomStreams, RunOrigin, WorkerPools, pools_of};
-use fwd_reader::{FlushTimer, Output, ReaderInbox, ReaderInboxes, tally_of};
+use fwd_reader::{FlushTimer, Output, ReaderInbox, ReaderInboxes, tally_of, unasked_in};
 use fwd_run::{IdPage, OpenedRun, ReachedHistory, RunPage, RunPages, SourceIds, open_run, skip};
 use fwd_settings::Settings;
-use fwd_turns::{
-    EventLoop, EventQueue, FrontTurns, ReaderLimits, ReaderParts, SourceSetup, close_all,
-};
+use fwd_turns::{DrainSeen, EventLoop, EventQueue, ReaderLimits, ReaderParts, SourceSetup};
 use std::alloc::Global;
+use std::fs::File;
 use std::marker::Model;
 use std::net::Net;
 use std::rt::{Clock, Files};
 use std::sync::{Arc, Wait};
-use std::thread;
 
 /// So many bytes are asked for and given back at the start. The C library gives a larger piece than
 /// any that it was given back before to the system at once, and takes pages for the next one anew,
@@ -109,7 +111,7 @@ struct FrontLoop<J: Run> {
 }
 
 /// The loop of the reader in front before its first turn.
-fn front_loop<J: Run, R: Net + Files>(
+fn front_loop<J: Run, R: Net + Files<File = File>>(
     rt: &R,
     alloc: Global,
     address: Address,
@@ -260,7 +262,7 @@ fn source_ids<J: Run>(ids: RunPage<J>, pages: RunPages<J>, outputs: usize) -> So
 }
 
 /// The relay of these parts, with the pages of a run in which nothing happened yet.
-fn relay_of<J: Run, R: Net + Files + AllocGlobal>(
+fn relay_of<J: Run, R: Net + Files<File = File> + AllocGlobal>(
     rt: &R,
     pages: RunPages<J>,
     address: Address,
@@ -323,7 +325,7 @@ impl<J: Run + Send + Sync> Loop<J> {
     /// control socket cannot be had, with `Poll` where the system has nothing to wait with, with
     /// `Seed` where the settings have no seed and the system gives no random bytes, and with
     /// `Memory`.
-    pub fn new<R: Net + Files + AllocGlobal>(
+    pub fn new<R: Net + Files<File = File> + AllocGlobal>(
         rt: &R,
         opened: OpenedRun,
         settings: Settings,
@@ -342,7 +344,11 @@ impl<J: Run + Send + Sync> Loop<J> {
     }
 
     /// The same relay, which can be asked to stop over a socket of this path.
-    fn with_control<R: Net + Files>(self, rt: &R, path: SocketPath) -> Result<Loop<J>, StartFault>
+    fn with_control<R: Net + Files<File = File>>(
+        self,
+        rt: &R,
+        path: SocketPath,
+    ) -> Result<Loop<J>, StartFault>
         ensures { IfOk result (λ relay. relay ≡ self) }
     {
         let mut relay = self;
@@ -360,7 +366,7 @@ impl<J: Run + Send + Sync> Loop<J> {
     }
 
     /// The relay of these settings, which cannot be asked to stop.
-    fn without_control<R: Net + Files + AllocGlobal>(
+    fn without_control<R: Net + Files<File = File> + AllocGlobal>(
         rt: &R,
         pages: RunPages<J>,
         settings: Settings,
@@ -418,7 +424,7 @@ impl<J: Run + Send + Sync> Loop<J> {
         let Ended {
             outcome,
             control: _,
-            path: _,
+            file: _,
         } = self.run_apart(rt, observer, count);
         outcome
     }
@@ -426,7 +432,7 @@ impl<J: Run + Send + Sync> Loop<J> {
     /// The same, but that it ends sooner where it is asked to stop: once all is delivered and told,
     /// or the time is over. Whoever asked is told what came of it, and the files of its sockets are
     /// removed.
-    pub fn run_to_end<R: Platform + Files, W: Observer>(
+    pub fn run_to_end<R: Platform + Files<File = File>, W: Observer>(
         self,
         rt: &R,
         observer: &mut W,
@@ -437,14 +443,18 @@ impl<J: Run + Send + Sync> Loop<J> {
         ensures reached { IfOk result (λ o. AreReportsAfter o.reached o.reports.items) }
         ensures delivered { IfOk result (λ o. o.ending ≡ Ending.Delivered
             → All (λ report. report.counts.held ≡ 0) o.reports.items) }
+        ensures read_out { IfOk result (λ o. o.ending ≡ Ending.Delivered
+            → (last : DrainSeen) × ((o.seen ≡ Some last) × IsReadOut last)) }
+        ensures emptied { IfOk result (λ o. o.ending ≡ Ending.Delivered
+            → AreEmptied o.reached o.reports.items) }
     {
         let Ended {
             outcome,
             control,
-            path,
+            file,
         } = self.run_apart(rt, observer, count);
-        if let Some(path) = path {
-            make_room(rt, path.as_str());
+        if let Some(file) = file {
+            remove_socket(rt, file);
         }
         if let Some(control) = control {
             let answer = match &outcome {
@@ -464,6 +474,10 @@ impl<J: Run + Send + Sync> Loop<J> {
         ensures reached { IfOk result.outcome (λ o. AreReportsAfter o.reached o.reports.items) }
         ensures delivered { IfOk result.outcome (λ o. o.ending ≡ Ending.Delivered
             → All (λ report. report.counts.held ≡ 0) o.reports.items) }
+        ensures read_out { IfOk result.outcome (λ o. o.ending ≡ Ending.Delivered
+            → (last : DrainSeen) × ((o.seen ≡ Some last) × IsReadOut last)) }
+        ensures emptied { IfOk result.outcome (λ o. o.ending ≡ Ending.Delivered
+            → AreEmptied o.reached o.reports.items) }
     {
         let Loop {
             alloc,
@@ -471,107 +485,41 @@ impl<J: Run + Send + Sync> Loop<J> {
             mut own,
         } = self;
         let ran = run_parts(rt, &shared, &mut own, observer, count);
+        let unsent = own.give_up(unasked_in(rt, &shared.outputs));
         let (outputs, reached) = shared.into_outputs();
         let outcome = match ran {
-            Ok(was_asked) => outcome_of(alloc, outputs, &reached, was_asked),
+            Ok(seen) => outcome_of(alloc, outputs, &reached, seen, unsent),
             Err(fault) => Err(fault),
         };
         let control = own.front.event_loop.take_control();
-        let path = own.front.event_loop.source_path();
+        let file = own.front.event_loop.source_file();
         Ended {
             outcome,
             control,
-            path,
+            file,
         }
     }
 }
 
-/// What a run over these outputs came to, which was asked to stop or not, and which had reached a
-/// history before. The only error is out of memory.
+/// What a run over these outputs came to, of which this was seen in the end where it was asked to
+/// stop, which did not admit some requests, and which had reached a history before. The only error is
+/// out of memory.
 fn outcome_of<J: Run>(
     alloc: Global,
     outputs: Vec<Output<J>>,
     reached: &ReachedHistory<J>,
-    was_asked: bool,
+    seen: Option<DrainSeen>,
+    unsent: UnsentRequests,
 ) -> Result<Outcome<J>, StartFault>
     ensures count { IfOk result (λ o. length o.reports.items ≡ length outputs.items) }
     ensures add_up { IfOk result (λ o. AddUp o.reports.items) }
     ensures reached { IfOk result (λ o. AreReportsAfter o.reached o.reports.items) }
     ensures delivered { IfOk result (λ o. o.ending ≡ Ending.Delivered
         → All (λ report. report.counts.held ≡ 0) o.reports.items) }
+    ensures read_out { IfOk result (λ o. o.ending ≡ Ending.Delivered
+        → (last : DrainSeen) × ((o.seen ≡ Some last) × IsReadOut last)) }
+    ensures emptied { IfOk result (λ o. o.ending ≡ Ending.Delivered
+        → AreEmptied o.reached o.reports.items) }
 {
-    Ok(Outcome::of(alloc, outputs, reached, was_asked)?)
-}
-
-/// Runs a relay of these parts for so many turns, or until it was asked to stop and is to end:
-/// whether it was asked.
-fn run_parts<J: Run + Send + Sync, R: Platform, W: Observer>(
-    rt: &R,
-    shared: &Shared<J>,
-    own: &mut Own<J>,
-    observer: &mut W,
-    count: u64,
-) -> Result<bool, StartFault> {
-    let alloc = rt.alloc();
-    let Opened {
-        mut turns,
-        mut others,
-        workers,
-    } = open(rt, alloc, shared, own)?;
-    let served = match Beside::new(alloc, workers, &mut others) {
-        Ok(beside) => serve(rt, &mut turns, beside, observer, count),
-        Err(_) => Err(StartFault::Memory),
-    };
-    let was_asked = turns.is_drained();
-    close_all(rt, others);
-    turns.close_watched(rt, observer);
-    served?;
-    Ok(was_asked)
-}
-
-/// Makes so many turns in this thread, and as many in each thread beside it, until all have ended;
-/// and has monitors' pages made in another one, where there can be one.
-fn serve<J: Run + Send + Sync, R: Platform, W: Observer>(
-    rt: &R,
-    turns: &mut FrontTurns<'_, J, R>,
-    beside: Beside<'_, '_, J, R>,
-    observer: &mut W,
-    count: u64,
-) -> Result<(), StartFault> {
-    thread::scope(thread::scope_env(), rt, move |scope| {
-        let mut started = Started::with_room_for(rt.alloc(), &beside)?;
-        let begun = started.start(scope, rt, beside, count);
-        // Behind the workers: a relay does without it where there is no room for one thread more.
-        let maker = turns.page_maker();
-        if let Some(maker) = maker {
-            if started.start_pages(scope, rt, maker) {
-                turns.order_pages();
-            }
-        }
-        let served = serve_front(rt, turns, begun, observer, count);
-        if let Some(maker) = maker {
-            maker.stop(rt);
-        }
-        let ended = started.join(rt);
-        served.and(ended)
-    })
-}
-
-/// Makes so many turns in this thread, if those beside it could begin; and has them end where it
-/// failed, or the relay has nothing left to do.
-fn serve_front<J: Run, R: Platform, W: Observer>(
-    rt: &R,
-    turns: &mut FrontTurns<'_, J, R>,
-    begun: Result<(), StartFault>,
-    observer: &mut W,
-    count: u64,
-) -> Result<(), StartFault> {
-    let mut served = begun;
-    if served.is_ok() {
-        served = turns.run_watched(rt, observer, count);
-    }
-    if served.is_err() || turns.is_drained() {
-        turns.stop();
-    }
-    served
+    Ok(Outcome::of(alloc, outputs, reached, seen, unsent)?)
 }

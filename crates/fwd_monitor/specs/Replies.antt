@@ -4,6 +4,9 @@ use Rattle.std.specs.Prelude.{
   ℕ,
   ◌<◌,
   ◌⊎◌,
+  Bool,
+  true,
+  false,
   List,
   [],
   ◌∷◌,
@@ -26,6 +29,7 @@ use Rattle.fwd_monitor.specs.Metrics.{metrics_of}
 use Rattle.fwd_monitor.specs.Page.{page_of}
 use Rattle.fwd_monitor.specs.Requests.{
   is_for_page,
+  is_for_ready,
   BeginsWith,
   IsTooLong,
   HasManyLines,
@@ -39,25 +43,33 @@ abbrev pub head_text : List (List ℕ) → List ℕ
 head_text [] = crlf_bytes
 head_text (line ∷ lines) = line ++ (crlf_bytes ++ head_text lines)
 
--- the head for a page of so many bytes
-abbrev pub page_head : ℕ → List ℕ
-page_head size =
+-- the head for a text of so many bytes, with this status line
+abbrev pub text_head : List ℕ → ℕ → List ℕ
+text_head line size =
     head_text
-    (codes "HTTP/1.1 200 OK"
+    (line
     ∷ codes "Content-Type: text/plain"
     ∷ (codes "Content-Length: " ++ decimal size)
     ∷ codes "Connection: close"
     ∷ [])
 
+-- a text behind its head
+abbrev pub text_reply : (line body : List ℕ) → List ℕ
+text_reply line body = text_head line (length body) ++ body
+
+-- the status line of what is there
+abbrev pub ok_line : List ℕ
+ok_line = codes "HTTP/1.1 200 OK"
+
 -- the page behind its head
 abbrev pub page_reply : List Report → List ℕ
-page_reply reports = page_head (length (page_of reports)) ++ page_of reports
+page_reply reports = text_reply ok_line (page_of reports)
 
 -- the head for a metrics page of so many bytes
 abbrev pub metrics_head : ℕ → List ℕ
 metrics_head size =
     head_text
-    (codes "HTTP/1.1 200 OK"
+    (ok_line
     ∷ codes "Content-Type: text/plain; version=0.0.4; charset=utf-8"
     ∷ (codes "Content-Length: " ++ decimal size)
     ∷ codes "Connection: close"
@@ -68,6 +80,20 @@ abbrev pub metrics_reply_of : Figures → List OutputFigures → List Report →
 metrics_reply_of figures outputs reports tally =
     metrics_head (length (metrics_of figures outputs reports tally))
     ++ metrics_of figures outputs reports tally
+
+-- the status line that a load balancer is told: a relay that drains is to get no new sources
+abbrev pub ready_line : (is_draining : Bool) → List ℕ
+ready_line false = ok_line
+ready_line true = codes "HTTP/1.1 503 Service Unavailable"
+
+-- the same in a word
+abbrev pub ready_text : (is_draining : Bool) → List ℕ
+ready_text false = codes "ready\n"
+ready_text true = codes "draining\n"
+
+-- the word behind its head
+abbrev pub ready_reply : (is_draining : Bool) → List ℕ
+ready_reply is_draining = text_reply (ready_line is_draining) (ready_text is_draining)
 
 -- a reply that is a head alone
 abbrev pub bare : List ℕ → List ℕ
@@ -81,9 +107,12 @@ not_found = bare (codes "HTTP/1.1 404 Not Found")
 abbrev pub bad_request : List ℕ
 bad_request = bare (codes "HTTP/1.1 400 Bad Request")
 
--- to a whole head
-abbrev pub reply_to : RequestHead → List Report → List ℕ
-reply_to h reports = if is_for_page h.method h.target then page_reply reports else not_found
+-- to a whole head, where the relay drains or not
+abbrev pub reply_to : RequestHead → (is_draining : Bool) → List Report → List ℕ
+reply_to h is_draining reports =
+    if is_for_page h.method h.target then page_reply reports
+    else if is_for_ready h.method h.target then ready_reply is_draining
+    else not_found
 
 -- the reply is these bytes
 abbrev pub Sends : Reply → List ℕ → Type 0
@@ -91,22 +120,24 @@ Sends More bytes = ⊥
 Sends (Bytes out) bytes = out.items ≡ bytes
 
 -- what a monitor that has sent these bytes is told, by what they are
-pub record IsReplyTo (heard : List ℕ) (reports : List Report) (reply : Reply) : Type 0 where
-  pub whole : (h : RequestHead) → BeginsWith heard h → Sends reply (reply_to h reports)
-  pub crowded : (h : RequestHead) (rest : List ℕ) → ReadsRequest heard h rest
-      → MAX_HEADERS < length h.fields → Sends reply bad_request
-  pub overfull : HasManyLines heard → Sends reply bad_request
-  pub hopeless : NeverHasRequest heard → ¬ (EndsInTarget heard) → Sends reply bad_request
-  pub long : IsTooLong heard → Sends reply bad_request
-  pub waits : MustWait heard → reply ≡ More
+pub record IsReplyTo
+    (heard : List ℕ) (is_draining : Bool) (reports : List Report) (reply : Reply) : Type 0
+  where
+    pub whole : (h : RequestHead) → BeginsWith heard h → Sends reply (reply_to h is_draining reports)
+    pub crowded : (h : RequestHead) (rest : List ℕ) → ReadsRequest heard h rest
+        → MAX_HEADERS < length h.fields → Sends reply bad_request
+    pub overfull : HasManyLines heard → Sends reply bad_request
+    pub hopeless : NeverHasRequest heard → ¬ (EndsInTarget heard) → Sends reply bad_request
+    pub long : IsTooLong heard → Sends reply bad_request
+    pub waits : MustWait heard → reply ≡ More
 
 -- these bytes are the reply that is due, and why
-abbrev pub IsDueText : List ℕ → List Report → List ℕ → Type 0
-IsDueText heard reports text =
-    ((h : RequestHead) × BeginsWith heard h × (text ≡ reply_to h reports))
+abbrev pub IsDueText : List ℕ → (is_draining : Bool) → List Report → List ℕ → Type 0
+IsDueText heard is_draining reports text =
+    ((h : RequestHead) × BeginsWith heard h × (text ≡ reply_to h is_draining reports))
     ⊎ (IsBad heard × (text ≡ bad_request))
 
 -- why the reply is right
-abbrev pub HasReason : List ℕ → List Report → Reply → Type 0
-HasReason heard reports More = MayWait heard
-HasReason heard reports (Bytes out) = IsDueText heard reports out.items
+abbrev pub HasReason : List ℕ → (is_draining : Bool) → List Report → Reply → Type 0
+HasReason heard is_draining reports More = MayWait heard
+HasReason heard is_draining reports (Bytes out) = IsDueText heard is_draining reports out.items

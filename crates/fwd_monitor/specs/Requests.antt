@@ -20,6 +20,10 @@ abbrev pub is_for_metrics : List ℕ → List ℕ → Bool
 is_for_metrics method target =
     bytes_eq method (codes "GET") && bytes_eq target (codes "/metrics")
 
+-- a method and a target ask whether the relay is ready for new sources, as load balancers do
+abbrev pub is_for_ready : List ℕ → List ℕ → Bool
+is_for_ready method target = bytes_eq method (codes "GET") && bytes_eq target (codes "/ready")
+
 -- the bytes begin with this whole head, which has few enough headers
 pub record BeginsWith (heard : List ℕ) (h : RequestHead) : Type 0 where
   pub whole : (rest : List ℕ) × ReadsRequest heard h rest
@@ -47,6 +51,10 @@ WantsPage heard = (h : RequestHead) × BeginsWith heard h × IsTrue (is_for_page
 abbrev pub WantsMetrics : List ℕ → Type 0
 WantsMetrics heard =
     (h : RequestHead) × BeginsWith heard h × IsTrue (is_for_metrics h.method h.target)
+
+-- a whole head of few enough headers stands in front, and it asks whether the relay is ready
+abbrev pub WantsReady : List ℕ → Type 0
+WantsReady heard = (h : RequestHead) × BeginsWith heard h × IsTrue (is_for_ready h.method h.target)
 
 -- a reply is due
 abbrev pub IsDue : List ℕ → Type 0

@@ -5,23 +5,34 @@ use Rattle.fwd_base.specs.declared.report.Report.{Report}
 use Rattle.fwd_monitor.specs.declared.status.HttpStatus.{HttpStatus}
 use Rattle.fwd_monitor.specs.declared.status.HttpStatus.TheVariants.{
   Found,
+  Ready,
   Metrics,
   NotFound,
   BadRequest,
 }
-use Rattle.fwd_monitor.specs.Replies.{page_reply, not_found, bad_request}
-use Rattle.fwd_monitor.specs.Requests.{BeginsWith, IsBad, MayWait, is_for_metrics, is_for_page}
+use Rattle.fwd_monitor.specs.Replies.{page_reply, ready_reply, not_found, bad_request}
+use Rattle.fwd_monitor.specs.Requests.{
+  BeginsWith,
+  IsBad,
+  MayWait,
+  is_for_metrics,
+  is_for_page,
+  is_for_ready,
+}
 
 -- why the bytes come to this status
 abbrev pub HasStatus : List ℕ → HttpStatus → Type 0
 HasStatus heard Found =
     (h : RequestHead) × BeginsWith heard h × IsTrue (is_for_page h.method h.target)
+HasStatus heard Ready =
+    (h : RequestHead) × BeginsWith heard h × IsFalse (is_for_page h.method h.target)
+    × IsTrue (is_for_ready h.method h.target)
 HasStatus heard Metrics =
     (h : RequestHead) × BeginsWith heard h × IsFalse (is_for_page h.method h.target)
-    × IsTrue (is_for_metrics h.method h.target)
+    × IsFalse (is_for_ready h.method h.target) × IsTrue (is_for_metrics h.method h.target)
 HasStatus heard NotFound =
     (h : RequestHead) × BeginsWith heard h × IsFalse (is_for_page h.method h.target)
-    × IsFalse (is_for_metrics h.method h.target)
+    × IsFalse (is_for_ready h.method h.target) × IsFalse (is_for_metrics h.method h.target)
 HasStatus heard BadRequest = IsBad heard
 
 -- the status of the bytes, or none while it is right to wait
@@ -39,9 +50,10 @@ abbrev pub is_metrics : Option HttpStatus → Bool
 is_metrics (Some Metrics) = true
 is_metrics _ = false
 
--- the bytes of the reply of each status, where no metrics are served
-abbrev pub reply_of : HttpStatus → List Report → List ℕ
-reply_of Found reports = page_reply reports
-reply_of Metrics reports = not_found
-reply_of NotFound reports = not_found
-reply_of BadRequest reports = bad_request
+-- the bytes of the reply of each status, where no metrics are served and the relay drains or not
+abbrev pub reply_of : HttpStatus → (is_draining : Bool) → List Report → List ℕ
+reply_of Found is_draining reports = page_reply reports
+reply_of Ready is_draining reports = ready_reply is_draining
+reply_of Metrics is_draining reports = not_found
+reply_of NotFound is_draining reports = not_found
+reply_of BadRequest is_draining reports = bad_request

@@ -1,8 +1,15 @@
 ghost use Rattle.std.specs.Prelude.{◌≡◌, IfOk, OnErr};
 ghost use Rattle.std.specs.String.{string_bytes};
 ghost use Rattle.fwd_monitor.specs.Replies as replies;
-ghost use Rattle.fwd_monitor.specs.Replies.{HasReason, IsReplyTo, metrics_reply_of, page_reply};
-ghost use Rattle.fwd_monitor.specs.Requests.{IsDue, MustWait};
+ghost use Rattle.fwd_monitor.specs.Replies.{
+  HasReason,
+  IsReplyTo,
+  Sends,
+  metrics_reply_of,
+  page_reply,
+  ready_reply,
+};
+ghost use Rattle.fwd_monitor.specs.Requests.{IsDue, MustWait, WantsReady};
 ghost use Rattle.fwd_monitor.specs.Statuses.{reply_of};
 
 use crate::figures::{Figures, OutputFigures};
@@ -15,33 +22,47 @@ use crate::tally::RelayTally;
 use fwd_base::Report;
 use std::alloc::{AllocError, Global};
 
-/// What a monitor that has sent the bytes of `head` so far is told. A whole request head (RFC 9112,
-/// sections 2 to 5) of at most `MAX_HEADERS` headers is told the page where its method is `GET` and
-/// its target is `/`, and 404 otherwise, whatever stands behind it. A head of more headers is told
-/// 400 once their lines have come, finished or not, and so are bytes that nothing can make a head,
-/// and `HEAD_LIMIT` bytes or more without a whole head. Others wait. The only error is out of
-/// memory, and to wait takes none.
-pub fn answer(alloc: Global, head: &[u8], reports: &[Report]) -> Result<Reply, AllocError>
-    ensures reply { IfOk result (IsReplyTo head.now reports.now) }
-    ensures reason { IfOk result (HasReason head.now reports.now) }
+/// What a monitor that has sent the bytes of `head` so far is told, where the relay drains or not.
+/// A whole request head (RFC 9112, sections 2 to 5) of at most `MAX_HEADERS` headers is told this,
+/// whatever stands behind it: `GET /` the page; `GET /ready`, which load balancers ask, 503 and
+/// `draining` where the relay drains, and 200 and `ready` otherwise; any other 404. A head of more
+/// headers is told 400 once their lines have come, finished or not, and so are bytes that nothing
+/// can make a head, and `HEAD_LIMIT` bytes or more without a whole head. Others wait. The only
+/// error is out of memory, and to wait takes none.
+pub fn answer(
+    alloc: Global,
+    head: &[u8],
+    reports: &[Report],
+    is_draining: bool,
+) -> Result<Reply, AllocError>
+    ensures reply { IfOk result (IsReplyTo head.now is_draining reports.now) }
+    ensures reason { IfOk result (HasReason head.now is_draining reports.now) }
+    ensures ready { WantsReady head.now
+        → IfOk result (λ reply. Sends reply (ready_reply is_draining)) }
     ensures memory { OnErr result (IsDue head.now) }
     ensures waits { MustWait head.now → result ≡ Ok Reply.More }
 {
     match judge(head) {
         Some(status) => {
-            let text = text(alloc, status, reports)?;
+            let text = text(alloc, status, reports, is_draining)?;
             Ok(Reply::Bytes(text.into_bytes()))
         }
         None => Ok(Reply::More),
     }
 }
 
-/// The bytes of a status's reply.
-fn text(alloc: Global, status: HttpStatus, reports: &[Report]) -> Result<String, AllocError>
-    ensures { IfOk result (λ text. string_bytes text ≡ reply_of status reports.now) }
+/// The bytes of a status's reply, where the relay drains or not.
+fn text(
+    alloc: Global,
+    status: HttpStatus,
+    reports: &[Report],
+    is_draining: bool,
+) -> Result<String, AllocError>
+    ensures { IfOk result (λ text. string_bytes text ≡ reply_of status is_draining reports.now) }
 {
     match status {
         HttpStatus::Found => found(alloc, reports),
+        HttpStatus::Ready => ready(alloc, is_draining),
         HttpStatus::Metrics | HttpStatus::NotFound => String::from_str(
             alloc,
             "HTTP/1.1 404 Not Found\r\nContent-Length: 0\r\nConnection: close\r\n\r\n",
@@ -58,17 +79,35 @@ fn found(alloc: Global, reports: &[Report]) -> Result<String, AllocError>
     ensures { IfOk result (λ text. string_bytes text ≡ page_reply reports.now) }
 {
     let body = page(alloc, reports)?;
-    let mut text = page_head(alloc, body.len())?;
-    text.push_str(&body)?;
+    text_reply(alloc, "HTTP/1.1 200 OK", &body)
+}
+
+/// What a load balancer is told, where the relay drains or not.
+fn ready(alloc: Global, is_draining: bool) -> Result<String, AllocError>
+    ensures { IfOk result (λ text. string_bytes text ≡ ready_reply is_draining) }
+{
+    if is_draining {
+        text_reply(alloc, "HTTP/1.1 503 Service Unavailable", "draining\n")
+    } else {
+        text_reply(alloc, "HTTP/1.1 200 OK", "ready\n")
+    }
+}
+
+/// A text behind its head, with this status line.
+fn text_reply(alloc: Global, line: &str, body: &str) -> Result<String, AllocError>
+    ensures { IfOk result (λ text. string_bytes text ≡ replies.text_reply line.now body.now) }
+{
+    let mut text = text_head(alloc, line, body.len())?;
+    text.push_str(body)?;
     Ok(text)
 }
 
-/// The head for a page of so many bytes.
-fn page_head(alloc: Global, size: usize) -> Result<String, AllocError>
-    ensures { IfOk result (λ text. string_bytes text ≡ replies.page_head size) }
+/// The head for a text of so many bytes, with this status line.
+fn text_head(alloc: Global, line: &str, size: usize) -> Result<String, AllocError>
+    ensures { IfOk result (λ text. string_bytes text ≡ replies.text_head line.now size) }
 {
     format!(in alloc;
-        "HTTP/1.1 200 OK\r\nContent-Type: text/plain\r\nContent-Length: {size}\r\n\
+        "{line}\r\nContent-Type: text/plain\r\nContent-Length: {size}\r\n\
         Connection: close\r\n\r\n"
     )
 }

@@ -1,6 +1,12 @@
 ghost use Rattle.std.specs.Prelude.{◌≡◌, ◌+◌, ◌↔◌, IsTrue, nat_lt};
 ghost use Rattle.fwd_monitor.specs.Lines.{head_lines};
-ghost use Rattle.fwd_monitor.specs.Requests.{WantsMetrics, WantsPage, is_for_metrics, is_for_page};
+ghost use Rattle.fwd_monitor.specs.Requests.{
+  WantsMetrics,
+  WantsPage,
+  is_for_metrics,
+  is_for_page,
+  is_for_ready,
+};
 ghost use Rattle.fwd_monitor.specs.Statuses.{IsJudged, is_found, is_metrics};
 
 use crate::limits::{HEAD_LIMIT, MAX_HEADERS};
@@ -20,6 +26,8 @@ pub(crate) fn judge(heard: &[u8]) -> Option<HttpStatus>
             let (method, target) = (head.method.of(heard), head.path.of(heard));
             if asks_for_page(method, target) {
                 Some(HttpStatus::Found)
+            } else if asks_for_ready(method, target) {
+                Some(HttpStatus::Ready)
             } else if asks_for_metrics(method, target) {
                 Some(HttpStatus::Metrics)
             } else {
@@ -66,6 +74,13 @@ fn asks_for_page(method: &[u8], target: &[u8]) -> bool
     ensures { result ≡ is_for_page method.now target.now }
 {
     method == b"GET".as_slice() && target == b"/".as_slice()
+}
+
+/// Whether a request asks whether the relay is ready for new sources.
+fn asks_for_ready(method: &[u8], target: &[u8]) -> bool
+    ensures { result ≡ is_for_ready method.now target.now }
+{
+    method == b"GET".as_slice() && target == b"/ready".as_slice()
 }
 
 /// Whether a request is for the metrics page.

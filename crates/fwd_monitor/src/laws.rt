@@ -1,6 +1,6 @@
 //! Laws over the definitions, each the contract of a function that does nothing.
 
-ghost use Rattle.std.specs.Prelude.{◌≡◌, ◌++◌, ℕ, List};
+ghost use Rattle.std.specs.Prelude.{◌≡◌, ◌++◌, ℕ, Bool, List};
 ghost use Rattle.httparse.specs.Grammar.{ReadsRequest, RequestHead};
 ghost use Rattle.fwd_base.specs.declared.report.Report.{Report};
 ghost use Rattle.fwd_monitor.specs.Replies.{IsDueText};
@@ -17,12 +17,13 @@ pub fn one_head()
         → ReadsRequest heard h rest → ReadsRequest (heard ++ more) h (rest ++ more) }
 {}
 
-/// The same bytes have one reply: no whole head of few enough headers is bad, and none is due where
-/// bytes are to wait. Where bytes can follow that make a head of few enough headers, no more header
-/// lines than that have come.
+/// The same bytes have one reply as long as the relay drains, and one before: no whole head of few
+/// enough headers is bad, and none is due where bytes are to wait. Where bytes can follow that make
+/// a head of few enough headers, no more header lines than that have come.
 pub fn one_reply()
-    ensures one { (heard : List ℕ) (reports : List Report) (text other : List ℕ)
-        → IsDueText heard reports text → IsDueText heard reports other → text ≡ other }
+    ensures one { (heard : List ℕ) (is_draining : Bool) (reports : List Report)
+        (text other : List ℕ) → IsDueText heard is_draining reports text
+        → IsDueText heard is_draining reports other → text ≡ other }
     ensures apart { (heard : List ℕ) (h : RequestHead) → BeginsWith heard h → ¬ (IsBad heard) }
     ensures early { (heard : List ℕ) → MustWait heard → ¬ (IsDue heard) }
     ensures few { (heard more : List ℕ) (h : RequestHead) → BeginsWith (heard ++ more) h

@@ -1,6 +1,7 @@
 //! The monitors: what a run tells of itself, also where it cannot start; what is counted of that,
 //! and the pages that monitors are sent. What the outputs hold comes from whoever has them, by
-//! `PageSource`. What is proved here is that each reason is counted under its own name.
+//! `PageSource`. What is proved here is that each reason is counted under its own name, and that a
+//! load balancer is told whether the relay drains.
 #![tactic(auto)]
 
 mod counting;

@@ -131,7 +131,7 @@ pub(crate) fn page_of<R: Wait, S: PageSource>(
     figures: Figures,
 ) -> Result<Arc<Vec<u8>>, AllocError> {
     match kind {
-        PageKind::Lines => lines_of(rt, alloc, parts),
+        PageKind::Lines => lines_of(rt, alloc, parts, figures),
         PageKind::Metrics => metrics_of(rt, alloc, parts, figures),
     }
 }
@@ -141,9 +141,10 @@ fn lines_of<R: Wait, S: PageSource>(
     rt: &R,
     alloc: Global,
     parts: &S,
+    figures: Figures,
 ) -> Result<Arc<Vec<u8>>, AllocError> {
     let reports = parts.reports(rt, alloc)?;
-    match answer(alloc, REQUEST, &reports)? {
+    match answer(alloc, REQUEST, &reports, figures.is_draining)? {
         Reply::Bytes(reply) => Ok(Arc::new(alloc, reply)?),
         Reply::More => Ok(Arc::new(alloc, Vec::new(alloc))?),
     }

@@ -1,7 +1,10 @@
 //! A monitor's connection over its stream.
 
-ghost use Rattle.std.specs.Prelude.{◌≡◌};
+ghost use Rattle.std.specs.Prelude.{◌≡◌, ◌≢◌, true, OnOk};
+ghost use Rattle.std.specs.Arc.{arc_value};
+ghost use Rattle.fwd_monitor.specs.declared.reply.Reply.TheVariants.{Bytes};
 ghost use Rattle.fwd_monitors.specs.Asking.{awaits_head};
+ghost use Rattle.fwd_monitors.specs.Told.{IsAsBefore, IsTold, sent_of};
 
 use crate::made_page::{MadePage, Making, PageKind, page_of};
 use crate::page_source::PageSource;
@@ -147,24 +150,32 @@ impl MonitorPeer {
     }
 
     /// It is sent a reply from a moment on (milliseconds): a page of this number, or another as 0.
-    fn send(&mut self, reply: Arc<Vec<u8>>, number: u64, now: u64) {
+    fn send(&mut self, reply: Arc<Vec<u8>>, number: u64, now: u64)
+        ensures sent { sent_of self.new.sending ≡ Bytes (arc_value reply) }
+        ensures heard { self.new.heard ≡ self.old.heard }
+        ensures metrics { self.new.has_metrics ≡ self.old.has_metrics }
+    {
         self.sending = Some(Sending { reply, sent: 0 });
         self.stage = MonitorState::Taking(number);
         self.since = now;
     }
 
-    /// Reads what is there, and writes the reply once there is one, at a moment (milliseconds). A
-    /// monitor that closed its side behind its request is sent the reply all the same. The only
-    /// error is out of memory.
+    /// Reads what is there, and writes the reply once there is one, at a moment (milliseconds) at
+    /// which the relay drains or not. A monitor that closed its side behind its request is sent the
+    /// reply all the same. The only error is out of memory.
     pub fn serve(
         &mut self,
         alloc: Global,
         room: &mut [u8],
+        is_draining: bool,
         now: u64,
-    ) -> Result<MonitorVisit, AllocError> {
+    ) -> Result<MonitorVisit, AllocError>
+        ensures { awaits_head self.old ≡ true → self.old.heard.items ≢ self.new.heard.items
+            → OnOk result (IsTold is_draining self.new) }
+    {
         let (count, visit) = self.stream.fill(room, true);
         if count > 0 && self.awaits_head() {
-            self.take_in(alloc, &room[..count], now)?;
+            self.take_in(alloc, &room[..count], is_draining, now)?;
         }
         Ok(if self.write(now) || (visit == Visit::Ended && self.awaits_head()) {
             MonitorVisit::Ended
@@ -175,9 +186,17 @@ impl MonitorPeer {
         })
     }
 
-    /// Takes in bytes, and makes the reply where one is due but a page. The only error is out of
-    /// memory.
-    fn take_in(&mut self, alloc: Global, bytes: &[u8], now: u64) -> Result<(), AllocError> {
+    /// Takes in bytes, and makes the reply where one is due but a page: what a load balancer asks
+    /// is answered at once. The only error is out of memory.
+    fn take_in(
+        &mut self,
+        alloc: Global,
+        bytes: &[u8],
+        is_draining: bool,
+        now: u64,
+    ) -> Result<(), AllocError>
+        ensures { OnOk result (IsTold is_draining self.new) }
+    {
         self.heard.extend_from_slice(bytes)?;
         if wants_page(&self.heard) {
             self.stage = MonitorState::Wanting(PageKind::Lines);
@@ -187,7 +206,7 @@ impl MonitorPeer {
             self.stage = MonitorState::Wanting(PageKind::Metrics);
             return Ok(());
         }
-        if let Reply::Bytes(reply) = answer(alloc, &self.heard, &[])? {
+        if let Reply::Bytes(reply) = answer(alloc, &self.heard, &[], is_draining)? {
             let reply = Arc::new(alloc, reply)?;
             self.send(reply, 0, now);
         }
@@ -196,7 +215,9 @@ impl MonitorPeer {
 
     /// Writes what is left of the reply as far as the stream takes it, at a moment (milliseconds),
     /// and says whether nothing is to be written any more.
-    fn write(&mut self, now: u64) -> bool {
+    fn write(&mut self, now: u64) -> bool
+        ensures { IsAsBefore self.old self.new }
+    {
         let Some(sending) = &mut self.sending else {
             return false;
         };

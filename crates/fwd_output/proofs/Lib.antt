@@ -11,3 +11,4 @@ pub mod Settling
 pub mod Paging
 pub mod Knowing
 pub mod Looking
+pub mod Giving

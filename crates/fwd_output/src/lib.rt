@@ -19,6 +19,8 @@ mod server_view;
 mod shared;
 mod tally;
 mod ticket;
+mod unasked_entries;
+mod unsent_requests;
 
 pub use collecting::Collected;
 pub use fwd_book::AdmitRefusal;
@@ -37,3 +39,4 @@ pub use server_view::{ChunkSearch, ChunkUse, Look, ServerView};
 pub use shared::SharedOutput;
 pub use tally::{Ledgered, Plain, Seat, Tally, open};
 pub use ticket::{Admitted, Ticket};
+pub use unsent_requests::UnsentRequests;

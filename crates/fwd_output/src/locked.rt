@@ -102,6 +102,7 @@ use crate::server_order::ServerOrder;
 use crate::server_view::ServerView;
 use crate::tally::Tally;
 use crate::ticket::Ticket;
+use crate::unasked_entries::UnaskedEntries;
 pub use closing::Closing;
 use fwd_book::AdmitRefusal;
 use fwd_chunks::{Carried, Counts, FlushKind, Report, Snapshot, Wanted, tags_add_up};
@@ -129,6 +130,8 @@ pub struct Locked<A: Tally, S: Tally> {
     begun: ChunkStarts,
     /// Where the chunks were lost that are not settled, the first ones of their sessions.
     lost_at: LostAt,
+    /// What the chunks have that are not settled, and nobody sends again.
+    unasked: UnaskedEntries,
     /// The output's servers, where they are known. Where they are not, a chunk that was lost goes
     /// where any chunk goes.
     order: Option<ServerOrder>,
@@ -170,6 +173,7 @@ impl<A: Tally, S: Tally> Locked<A, S> {
             claimed: 0,
             begun: ChunkStarts::new(alloc),
             lost_at: LostAt::new(alloc),
+            unasked: UnaskedEntries::new(alloc),
             order: None,
         }
     }
@@ -234,6 +238,12 @@ impl<A: Tally, S: Tally> Locked<A, S> {
         self.state.now().output()
     }
 
+    /// How many entries are held of requests that asked for no acknowledgement: nobody sends them
+    /// again.
+    pub fn unasked(&self) -> u64 {
+        self.unasked.count()
+    }
+
     /// When the oldest chunk was begun that is not settled, in milliseconds, if there is one.
     pub fn oldest(&self) -> Option<u64> {
         self.begun.oldest()
@@ -285,6 +295,7 @@ impl<A: Tally, S: Tally> Locked<A, S> {
         self.state.is_sound(); // for the proof
         self.accepted.add(seat, batch.len() as u64);
         let _ = self.begun.enter(admitted.spans.as_slice(), now);
+        self.unasked.enter(&batch, admitted.spans.as_slice());
         let state = self.state.now();
         let (run, output) = (state.run(), state.output());
         Ok(Ticket::new(run, output, origin, batch, admitted))
@@ -523,6 +534,7 @@ impl<A: Tally, S: Tally> Locked<A, S> {
         self.state.is_sound(); // for the proof
         self.settled.add(seat, count);
         self.begun.settle(number, count);
+        self.unasked.settle(number, count);
         self.note_settled(server, number, count);
         count
     }

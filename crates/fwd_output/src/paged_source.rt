@@ -34,6 +34,7 @@ use crate::routed_request::RoutedRequest;
 use crate::shared::SharedOutput;
 use crate::tally::Tally;
 use crate::ticket::Ticket;
+use crate::unsent_requests::UnsentRequests;
 use fwd_book::AdmitRefusal;
 use fwd_history::Run;
 use fwd_run::{ReachedHistory, SourcePage, run_delivers};
@@ -74,6 +75,20 @@ impl<J: Run> Model for PagedSource<J> {
 
     ghost invariant = { λ s. (s.page.id ≡ s.source.live.setup.conn) × Stands s.page
         × (s.is_refused ≡ false → AgreesWith s.page s.source.live) };
+}
+
+/// The requests that wait at a source go. What they had.
+#[tactic(auto, using(crate::proofs::Giving::gives_setup))]
+fn drop_waiting(source: &mut Source) -> UnsentRequests
+    ensures { source.new.live.setup ≡ source.old.live.setup }
+{
+    let mut unsent = UnsentRequests::none();
+    for _ in 0..source.waiting() {
+        if let Some((_, batch)) = source.next() {
+            unsent.add(&batch);
+        }
+    }
+    unsent
 }
 
 impl<J: Run> PagedSource<J> {
@@ -209,6 +224,15 @@ impl<J: Run> PagedSource<J> {
                 Err(why)
             }
         }
+    }
+
+    /// The relay ends, and none of its requests that wait is admitted any more. What they had.
+    pub fn give_up(&mut self) -> UnsentRequests
+        ensures gives_none { self.new.refused ≡ true }
+        ensures own { self.new.live.setup ≡ self.old.live.setup }
+    {
+        self.is_refused = true;
+        drop_waiting(&mut self.source)
     }
 
     /// A history of the run as it is known here and there. Of the receipts that an output gives

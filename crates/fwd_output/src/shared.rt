@@ -109,6 +109,12 @@ impl<A: Tally, S: Tally> SharedOutput<A, S> {
         Ok(snapshot.report(alloc)?)
     }
 
+    /// How many entries are held of requests that asked for no acknowledgement: nobody sends them
+    /// again. It is tested, as no clause sees it through the lock.
+    pub fn unasked<R: Wait>(&self, rt: &R) -> u64 {
+        self.lock.lock(rt).unasked()
+    }
+
     /// When the oldest chunk was begun that is not settled, in milliseconds, if there is one. That
     /// it is that of what lies under the lock no clause can see: it is tested.
     pub fn oldest<R: Wait>(&self, rt: &R) -> Option<u64> {

@@ -23,6 +23,7 @@ use Rattle.fwd_peers.specs.declared.close_reason.PeerEnd.{PeerEnd}
 use Rattle.fwd_peers.specs.declared.close_reason.PeerEnd.TheVariants as peer_end
 use Rattle.fwd_peers.specs.declared.close_reason.CloseReason.{CloseReason}
 use Rattle.fwd_peers.specs.declared.close_reason.CloseReason.TheVariants as source_end
+use Rattle.fwd_peers.specs.declared.leave_stage.LeaveStage.{LeaveStage}
 use Rattle.fwd_peers.specs.declared.peer_state.PeerState.{PeerState}
 use Rattle.fwd_peers.specs.declared.peer_state.PeerState.TheVariants as stage
 use Rattle.fwd_peers.specs.declared.peer_stream.Visit.{Visit}
@@ -37,7 +38,8 @@ use Rattle.fwd_peers.specs.Streams.{StreamCall, IsReading, IsVisit, is_full}
 -- bytes there is room; what its stream answered to all reads, and to all writes; when it sent
 -- something last, or came, in milliseconds; the number of the request that it gave last, and how
 -- many of those that it gave were answered; how many bytes it is owed: those take beside their
--- entries that were not; and whether one that it gave was refused, so that it gives none any more
+-- entries that were not; whether one that it gave was refused, so that it gives none any more; and
+-- how far it has come, where the relay was asked to stop
 pub record PeerShown : Type 0 where
   pub id : ℕ
   pub stage : PeerState
@@ -53,6 +55,7 @@ pub record PeerShown : Type 0 where
   pub answered : ℕ
   pub owed : ℕ
   pub refused : Bool
+  pub leave : LeaveStage
 
 -- the relay owes it nothing: no acknowledgement is promised, no byte waits to be sent, and no
 -- request waits to be admitted

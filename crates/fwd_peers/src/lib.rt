@@ -15,7 +15,7 @@ mod source_peer;
 mod waiting_place;
 
 pub use close_reason::{CloseReason, PeerEnd};
-pub use leave_stage::LeaveStage;
+pub use leave_stage::{LastReading, LeaveStage};
 pub use peer_address::{PeerAddress, SocketPath};
 pub use peer_socket::PeerSocket;
 pub use peer_stream::{PeerStream, Stream, Visit};

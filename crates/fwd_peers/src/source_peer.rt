@@ -13,6 +13,7 @@ ghost use Rattle.std.specs.Prelude.{
   [],
   true,
   false,
+  drop,
   length,
   nat_lt,
   take,
@@ -35,10 +36,11 @@ use crate::waiting_place::WaitingPlace;
 use fwd_book::AdmitRefusal;
 use fwd_history::Run;
 use fwd_match::Routes;
-use fwd_output::PagedSource;
+use fwd_output::{PagedSource, UnsentRequests};
 use fwd_source::{Piece, SourceFault};
 use std::alloc::Global;
 use std::marker::Model;
+use std::net::Shutdown;
 
 /// A source's connection: its stream, and what it sent and is sent.
 #[derive(Drop)]
@@ -94,6 +96,7 @@ impl<J: Run> Model for SourcePeer<J> {
       answered = p.answered;
       owed = p.owed;
       refused = p.source.refused;
+      leave = p.leave;
     } };
 
     ghost invariant = { λ p. p.id ≡ p.source.live.setup.conn };
@@ -123,6 +126,7 @@ impl<J: Run> SourcePeer<J> {
           answered = 0;
           owed = 0;
           refused = source.refused;
+          leave = LeaveStage.Stays;
         } }
     {
         SourcePeer {
@@ -223,17 +227,45 @@ impl<J: Run> SourcePeer<J> {
         }
     }
 
-    /// Takes in bytes, if it is open, at a moment (milliseconds), that its stream keeps: they were
-    /// looked at there, and not read.
-    pub fn hear_ahead(&mut self, alloc: Global, bytes: &[u8], now: u64)
+    /// Looks what its stream has, as far as the room goes: so many bytes, at the front of the room.
+    /// They stay there.
+    pub fn look(&self, room: &mut [u8]) -> usize
+        ensures { result ≤ length room.new }
+    {
+        self.stream.socket.peek(room).unwrap_or(0)
+    }
+
+    /// Takes in what its stream was seen to have behind so many bytes that were taken before, if it
+    /// is open, at a moment (milliseconds). The stream keeps them.
+    pub fn hear_ahead(&mut self, alloc: Global, seen: &[u8], taken: usize, now: u64)
         ensures taken { self.old.stage ≡ PeerState.Open → peers.TakesIn self.old
-            bytes.now self.new.live self.new.stage self.new.why }
+            (drop taken seen.now) self.new.live self.new.stage self.new.why }
         ensures closed { self.old.stage ≢ PeerState.Open → self.new ≡ self.old }
-        ensures calls { (self.new.reads ≡ self.old.reads) × (self.new.writes ≡ self.old.writes) }
+        ensures rest { self.new ≡ record self.old {
+          stage = self.new.stage;
+          why = self.new.why;
+          live = self.new.live;
+          room = self.new.room;
+          heard = self.new.heard;
+        } }
     {
         if self.stage == PeerState::Open {
-            self.take_in(alloc, bytes, now);
+            self.take_in(alloc, seen.get(taken..).unwrap_or(&[]), now);
         }
+    }
+
+    /// Its stream drops the first bytes that it has, which were taken in before, as many as the room
+    /// has: how many it dropped. Where it ended, the connection is over.
+    pub fn drop_taken(&mut self, room: &mut [u8]) -> usize
+        ensures within { result ≤ length room.new }
+        ensures rest { self.new ≡ record self.old {
+          stage = self.new.stage;
+          reads = self.new.reads;
+        } }
+    {
+        let (count, visit) = self.read(room, true);
+        self.visited(visit);
+        count
     }
 
     /// It had a fault: it is read no more.
@@ -357,15 +389,39 @@ impl<J: Run> SourcePeer<J> {
     }
 
     /// How far it has come, where the relay was asked to stop.
-    pub fn leave_stage(&self) -> LeaveStage {
+    pub fn leave_stage(&self) -> LeaveStage
+        ensures { result ≡ self.now.leave }
+    {
         self.leave
     }
 
     /// It has come so far from now on.
     pub fn leave_by(&mut self, stage: LeaveStage)
-        ensures { self.new ≡ self.old }
+        ensures { self.new ≡ record self.old { leave = stage } }
     {
         self.leave = stage;
+    }
+
+    /// Its other side is told that no more comes, if the relay owes it nothing: then it has come so
+    /// far. It says whether it was told.
+    pub fn shut(&mut self, stage: LeaveStage) -> bool
+        ensures told { result ≡ peers.is_owed_nothing self.old }
+        ensures shut { result ≡ true → self.new ≡ record self.old { leave = stage } }
+        ensures owed { result ≡ false → self.new ≡ self.old }
+    {
+        if !self.is_owed_nothing() {
+            return false;
+        }
+        let _ = self.stream.socket.shutdown(Shutdown::Write);
+        self.leave = stage;
+        true
+    }
+
+    /// The relay ends, and none of its requests that wait is admitted any more. What they had.
+    pub fn give_up(&mut self) -> UnsentRequests
+        ensures { self.new.refused ≡ true }
+    {
+        self.source.give_up()
     }
 
     /// Whether the relay owes it nothing: no acknowledgement is promised, no byte waits to be sent
@@ -402,6 +458,13 @@ impl<J: Run> SourcePeer<J> {
         ensures { self.new ≡ record self.old { stage = PeerState.Over } }
     {
         self.stage = PeerState::Over;
+    }
+
+    /// When it sent something last, or came, in milliseconds.
+    pub fn heard(&self) -> u64
+        ensures { result ≡ self.now.heard }
+    {
+        self.heard
     }
 
     /// Since when it has been silent (milliseconds), where neither it nor the relay owes the other
@@ -472,7 +535,7 @@ impl<J: Run> SourcePeer<J> {
     }
 
     /// Whether it stands.
-    fn stands(&self) -> bool
+    pub fn stands(&self) -> bool
         ensures { result ≡ peers.stands self.now.stage self.now.live.unsent }
     {
         match self.stage {

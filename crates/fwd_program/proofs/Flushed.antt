@@ -33,14 +33,14 @@ front Memory failed text old new wrote = inl wrote
 front (Input other) failed text old new wrote = absurd wrote
 front (Output other) failed text old new wrote = wrote
 
--- what a run wrote that left entries, behind a flush
-pub left_runs : {T : Type 0} (r : Result T WriteFailed) (entries : ℕ) (result : RunEnd)
+-- what a run wrote that left something, behind a flush
+pub left_runs : {T : Type 0} (r : Result T WriteFailed) (left : _) (result : RunEnd)
     (text : List ℕ) (old mid new : Option (List ℕ))
-    → MatchResult r (λ _. result ≡ Left entries) (λ failed. result ≡ Ran (Output failed))
-    → Runs (Left entries) text old mid → Keeps mid new → Runs result text old new
-left_runs (Ok x) entries result text old mid new is wrote k =
+    → MatchResult r (λ _. result ≡ Left left) (λ failed. result ≡ Ran (Output failed))
+    → Runs (Left left) text old mid → Keeps mid new → Runs result text old new
+left_runs (Ok x) left result text old mid new is wrote k =
     subst (λ e. Runs e text old new) (sym is) (kept Done text old mid new wrote k)
-left_runs (Err failed) entries result text old mid new is wrote k =
+left_runs (Err failed) left result text old mid new is wrote k =
     subst (λ e. Runs e text old new) (sym is)
     (kept (Output failed) text old mid new (front Done failed text old mid wrote) k)
 

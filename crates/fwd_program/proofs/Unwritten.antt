@@ -65,7 +65,7 @@ as_ended : (ending : Ending) (text : List ℕ) (old new : Option (List ℕ))
     → Runs (Ran Done) text old new → Runs (ended_as ending) text old new
 as_ended endings.Turns text old new runs = runs
 as_ended endings.Delivered text old new runs = runs
-as_ended (endings.Left entries) text old new runs = runs
+as_ended (endings.Left left) text old new runs = runs
 
 pub ended_runs : (ran : Result Ending RunEnd) (end : RunEnd) (text : List ℕ)
     (old new : Option (List ℕ)) → MatchResult ran (λ ending. end ≡ ended_as ending) (λ e. end ≡ e)

@@ -17,7 +17,7 @@ abbrev pub ReportsFor : Settings → List Report → Type 0
 ReportsFor settings reports = (length reports ≡ length settings.outputs) × AddUp reports
 
 -- How a run by the settings in a text ended, and what it wrote: all of the page of its reports,
--- also where entries are left, and where a write or a flush failed a front of it, or nothing. Only
+-- also where something is left, and where a write or a flush failed a front of it, or nothing. Only
 -- a text that was not read is unreadable. It has no script to end at.
 abbrev pub Runs : RunEnd → List ℕ → Option (List ℕ) → Option (List ℕ) → Type 0
 Runs (Ran statuses.Done) text old new =
@@ -31,7 +31,7 @@ Runs (Ran (statuses.Input failed)) text old new = ⊥
 Runs (Ran (statuses.Output failed)) text old new =
     Keeps old new ⊎ ((s : Settings) × (settings_of text ≡ Ok s) × (reports : List Report)
     × ReportsFor s reports × AppendsFront old new (page_of reports))
-Runs (Left entries) text old new =
+Runs (Left left) text old new =
     (s : Settings) × (settings_of text ≡ Ok s) × (reports : List Report) × ReportsFor s reports
     × Appends old new (page_of reports)
 Runs (Start fault) text old new = (s : Settings) × (settings_of text ≡ Ok s) × Keeps old new

@@ -4,9 +4,9 @@ use Rattle.fwd_script.specs.Statuses.{exit_code}
 use Rattle.fwd_program.specs.declared.stopping.StopEnd.{StopEnd}
 use Rattle.fwd_program.specs.declared.stopping.StopEnd.TheVariants.{Ran, Left, Unanswered}
 
--- the exit status: that of a check that ends so, 6 where entries are left, and 4 where no relay
+-- the exit status: that of a check that ends so, 6 where something is left, and 4 where no relay
 -- answers
 abbrev pub stop_code : StopEnd → ℕ
 stop_code (Ran status) = exit_code status
-stop_code (Left entries) = 6
+stop_code (Left left) = 6
 stop_code Unanswered = 4

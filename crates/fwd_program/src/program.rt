@@ -26,6 +26,7 @@ use fwd_check::check_said;
 use fwd_journal::{Log, RunEnd};
 use fwd_loop::Platform;
 use fwd_script::{Command, End, Status, asked, run_program, tell as tell_end};
+use std::fs::File;
 use std::io;
 use std::io::{ErrorKind, Read, Write};
 use std::net::{Net, TcpListener, TcpStream};
@@ -42,7 +43,7 @@ fn tell<E: Write>(errors: &mut E, end: &RunEnd) -> io::Result<()> {
 }
 
 /// Has a relay stop, tells how that ended, on a line of its own, and returns the exit status.
-fn do_stop<R: Net + Files + AllocGlobal, W: Write, E: Write>(
+fn do_stop<R: Net + Clock + Files + AllocGlobal, W: Write, E: Write>(
     rt: &R,
     call: StopCall<'_>,
     progress: Progress,
@@ -132,7 +133,7 @@ pub struct Invocation {
 }
 
 /// Does what words ask for that ask for no run, and returns the exit status.
-fn do_rest<R: Net + Files + AllocGlobal, I: Read, W: Write, E: Write>(
+fn do_rest<R: Net + Clock + Files + AllocGlobal, I: Read, W: Write, E: Write>(
     rt: &R,
     call: Invocation,
     input: &mut I,
@@ -163,7 +164,7 @@ fn do_rest<R: Net + Files + AllocGlobal, I: Read, W: Write, E: Write>(
 }
 
 /// Does what words ask for, and returns the exit status.
-fn run_words<R: Platform + Files, I: Read, W: Write, E: Write>(
+fn run_words<R: Platform + Files<File = File>, I: Read, W: Write, E: Write>(
     rt: &R,
     call: Invocation,
     input: &mut I,
@@ -215,13 +216,13 @@ fn run_words<R: Platform + Files, I: Read, W: Write, E: Write>(
 /// that cannot be told has the same exit status.
 ///
 /// What it asks of its runtime is that of a `Platform`, in full: a caller with a runtime of its own
-/// has to meet its sockets' types by name.
+/// has to meet its sockets' and its files' types by name.
 pub fn run_all<
     R: Net<Listener = TcpListener, Stream = TcpStream>
         + Threads
         + Wait
         + Clock
-        + Files
+        + Files<File = File>
         + AllocGlobal
         + Sync,
     I: Read,

@@ -17,11 +17,12 @@ use crate::process_observer::ProcessObserver;
 use fwd_base::{Report, Text};
 use fwd_check::{SettingsFile, add_patterns, say_of_addresses, say_refused, say_unheard};
 use fwd_journal::{Journal, Log, RunEnd};
-use fwd_loop::{Ending, Loop, Observer, Platform, StartFault};
+use fwd_loop::{Ending, Left, Loop, Observer, Platform, StartFault};
 use fwd_monitor::page;
 use fwd_run::OpenedRun;
 use fwd_script::{Status, WriteFailed, flush, write_all};
 use fwd_settings::{Settings, SettingsFault};
+use std::fs::File;
 use std::io::Write;
 use std::marker::Brand;
 use std::net::Net;
@@ -60,7 +61,7 @@ fn settings_at<R: Files + AllocGlobal, E: Write>(
 }
 
 /// The relay of these settings, whose outputs' match patterns are these.
-fn relay_of<J: fwd_history::Run + Send + Sync, R: Net + Files + AllocGlobal>(
+fn relay_of<J: fwd_history::Run + Send + Sync, R: Net + Files<File = File> + AllocGlobal>(
     rt: &R,
     opened: OpenedRun,
     settings: Settings,
@@ -77,7 +78,7 @@ fn relay_of<J: fwd_history::Run + Send + Sync, R: Net + Files + AllocGlobal>(
 
 /// Runs a relay of these settings under an observer: what its outputs came to, and why it ended.
 /// All that it does has one history, in proofs alone, which begins here.
-fn run_relay<J: fwd_history::Run + Send + Sync, R: Platform + Files, V: Observer>(
+fn run_relay<J: fwd_history::Run + Send + Sync, R: Platform + Files<File = File>, V: Observer>(
     rt: &R,
     opened: OpenedRun,
     settings: Settings,
@@ -98,7 +99,7 @@ fn run_relay<J: fwd_history::Run + Send + Sync, R: Platform + Files, V: Observer
 
 /// Runs by the settings that were found, under an observer, and writes the page of the last
 /// reports: nothing else is written before. It answers why the run ended.
-fn run_found<R: Platform + Files, V: Observer, W: Write>(
+fn run_found<R: Platform + Files<File = File>, V: Observer, W: Write>(
     rt: &R,
     found: Result<Settings, SettingsFault>,
     terms: Terms,
@@ -121,7 +122,7 @@ fn run_found<R: Platform + Files, V: Observer, W: Write>(
 
 /// The same as words ask for it, with the outputs' match patterns, under a journal where the log
 /// asks for one, which begins with what runs and ends with why it does no more.
-fn run_told<R: Platform + Files, W: Write, E: Write>(
+fn run_told<R: Platform + Files<File = File>, W: Write, E: Write>(
     rt: &R,
     found: Result<Settings, SettingsFault>,
     run: (Run<'_>, Vec<Text>),
@@ -158,26 +159,30 @@ fn ended(ran: Result<Ending, RunEnd>) -> RunEnd
     ensures { MatchResult ran (λ ending. result ≡ ended_as ending) (λ end. result ≡ end) }
 {
     match ran {
-        Ok(Ending::Left(entries)) => RunEnd::Left(entries),
+        Ok(Ending::Left(left)) => RunEnd::Left(left),
         Ok(_) => RunEnd::Ran(Status::Done),
         Err(end) => end,
     }
 }
 
-/// How a run ended that left so many entries, by what came of flushing its output.
-fn left_flushed(entries: u64, flush: Result<(), WriteFailed>) -> RunEnd
+/// How a run ended that left something, by what came of flushing its output.
+fn left_flushed(left: Left, flush: Result<(), WriteFailed>) -> RunEnd
     ensures { MatchResult flush
-        (λ _. result ≡ ends.Left entries)
+        (λ _. result ≡ ends.Left left)
         (λ failed. result ≡ ends.Ran (statuses.Output failed)) }
 {
     match flush {
-        Ok(()) => RunEnd::Left(entries),
+        Ok(()) => RunEnd::Left(left),
         Err(failed) => RunEnd::Ran(Status::Output(failed)),
     }
 }
 
 /// Says what is known of why a relay did not start, if it did not.
-fn say_no_start<R: Net + Files, E: Write>(rt: &R, ran: &Result<Ending, RunEnd>, errors: &mut E) {
+fn say_no_start<R: Net + Files<File = File>, E: Write>(
+    rt: &R,
+    ran: &Result<Ending, RunEnd>,
+    errors: &mut E,
+) {
     if let Err(RunEnd::Start(fault)) = ran {
         say_unheard(rt, fault, errors);
     }
@@ -185,7 +190,7 @@ fn say_no_start<R: Net + Files, E: Write>(rt: &R, ran: &Result<Ending, RunEnd>, 
 
 /// Runs by the settings in a file, under a journal where the log asks for one, and writes the page
 /// of the last reports. It says why a run came to no more.
-fn run_logged<R: Platform + Files, W: Write, E: Write>(
+fn run_logged<R: Platform + Files<File = File>, W: Write, E: Write>(
     rt: &R,
     run: Run<'_>,
     output: &mut W,
@@ -203,12 +208,12 @@ fn run_logged<R: Platform + Files, W: Write, E: Write>(
 
 /// Runs a relay by the settings in a file, and writes the monitor's page of the last reports, one
 /// of each output. A file that cannot be read is `Ran(BadSettings(Unreadable))`, and so are refused
-/// settings with their own fault; where the relay was asked to stop and entries are left it is
+/// settings with their own fault; where the relay was asked to stop and something is left it is
 /// `Left`, and the page is written; a failed write or flush is `Ran(Output)`, and behind it nothing
 /// was written or a front of the page; out of memory is `Ran(Memory)`. Behind all other ends but
 /// `Done` and `Left` nothing was written. The errors say why settings or an address are refused
 /// and, where the log asks for it, what the run comes to.
-pub fn run_file<R: Platform + Files, W: Write, E: Write>(
+pub fn run_file<R: Platform + Files<File = File>, W: Write, E: Write>(
     rt: &R,
     run: Run<'_>,
     output: &mut W,
@@ -219,7 +224,7 @@ pub fn run_file<R: Platform + Files, W: Write, E: Write>(
 {
     match run_logged(rt, run, output, errors) {
         RunEnd::Ran(status) => RunEnd::Ran(status.flushed(flush(output))),
-        RunEnd::Left(entries) => left_flushed(entries, flush(output)),
+        RunEnd::Left(left) => left_flushed(left, flush(output)),
         end => end,
     }
 }

@@ -8,30 +8,36 @@ use crate::asked_stop::StopCall;
 use arrayvec::ArrayString;
 use fwd_base::Text;
 use fwd_check::{SettingsFile, say, say_refused};
-use fwd_loop::ControlAnswer;
+use fwd_loop::{ControlAnswer, Left};
 use fwd_script::Status;
 use fwd_settings::{RelaySettings, Settings, SettingsFault};
 use std::alloc::Global;
 use std::io::{ErrorKind, Read, Write};
 use std::net::Net;
 use std::os::unix::net::UnixStream;
-use std::rt::Files;
+use std::rt::{Clock, Files};
 use std::time::Duration;
-use std::{fmt, io};
+use std::{fmt, io, thread};
 
-/// How long the relay may say nothing, in milliseconds. It says something each second.
-const SILENCE: u64 = 30_000;
+/// How often the relay is asked to take a connection whose queue of connections is full, and how
+/// long the call waits before each further time, in milliseconds: 10 s in all.
+const TRIES: u32 = 100;
+
+const PAUSE: u64 = 100;
+
+/// How long the relay may say nothing, in seconds. It says something each second.
+const SILENCE: u64 = 30;
 
 /// The most bytes of a line that the relay sends.
-const LINE: usize = 128;
+const LINE: usize = 160;
 
 /// How a call ended that has a relay stop.
 #[derive(Drop)]
 pub enum StopEnd {
     /// All is delivered, where it is `Done`. Else the settings are refused, memory is, or a write.
     Ran(Status),
-    /// The time was over, and so many entries are left.
-    Left(u64),
+    /// The time was over, and this is left.
+    Left(Left),
     /// No relay answers, or it ended before it had answered.
     Unanswered,
 }
@@ -60,23 +66,50 @@ impl fmt::Display for StopEnd {
     fn fmt<W: fmt::Write>(&self, f: &mut fmt::Formatter<W>) -> fmt::Result {
         match self {
             StopEnd::Ran(status) => write!(f, "{status}"),
-            StopEnd::Left(entries) => write!(f, "left {entries} entries"),
+            StopEnd::Left(left) => write!(f, "{left}"),
             StopEnd::Unanswered => f.write_str("stop: no answer"),
         }
     }
 }
 
 /// Why a relay does not answer.
+#[derive(Drop)]
+enum Silence {
+    /// It takes no connection.
+    Untaken,
+    /// It took one, and says nothing.
+    Mute,
+    /// What the system says.
+    Failed(io::Error),
+}
+
+impl From<io::Error> for Silence {
+    fn from(error: io::Error) -> Silence {
+        Silence::Failed(error)
+    }
+}
+
+impl fmt::Display for Silence {
+    fn fmt<W: fmt::Write>(&self, f: &mut fmt::Formatter<W>) -> fmt::Result {
+        match self {
+            Silence::Untaken => f.write_str("the relay took no connection within 10 s"),
+            Silence::Mute => write!(f, "the relay said nothing for {SILENCE} s"),
+            Silence::Failed(error) => write!(f, "{error}"),
+        }
+    }
+}
+
+/// Why the relay at a path does not answer.
 #[derive(Clone, Copy)]
 struct NoAnswer<'a> {
     path: &'a str,
-    error: &'a io::Error,
+    why: &'a Silence,
 }
 
 impl fmt::Display for NoAnswer<'_> {
     fn fmt<W: fmt::Write>(&self, f: &mut fmt::Formatter<W>) -> fmt::Result {
-        let NoAnswer { path, error } = self;
-        write!(f, "stop: {path}: {error}")
+        let NoAnswer { path, why } = self;
+        write!(f, "stop: {path}: {why}")
     }
 }
 
@@ -159,10 +192,27 @@ fn request_of<R: Files + AllocGlobal, E: Write>(
     }
 }
 
+/// Connects to a relay. One that hangs takes no connection, and once its queue of connections is
+/// full a blocking call would wait for ever.
+fn connect<R: Net + Clock>(rt: &R, path: &str) -> Result<UnixStream, Silence> {
+    for _ in 0..TRIES {
+        match mio::net::UnixStream::connect(rt, path) {
+            Ok(stream) => return Ok(UnixStream::from(stream)),
+            Err(error) if error.kind() == ErrorKind::WouldBlock => {
+                thread::sleep(rt, Duration::from_millis(PAUSE));
+            }
+            Err(error) => return Err(Silence::Failed(error)),
+        }
+    }
+    Err(Silence::Untaken)
+}
+
 /// Asks a relay to stop. What it answers comes over this stream.
-fn ask<R: Net>(rt: &R, request: &Request) -> io::Result<UnixStream> {
-    let mut stream = UnixStream::connect(rt, request.path.as_str())?;
-    stream.set_read_timeout(Some(Duration::from_millis(SILENCE)))?;
+fn ask<R: Net + Clock>(rt: &R, request: &Request) -> Result<UnixStream, Silence> {
+    let mut stream = connect(rt, request.path.as_str())?;
+    stream.set_nonblocking(false)?;
+    stream.set_read_timeout(Some(Duration::from_secs(SILENCE)))?;
+    stream.set_write_timeout(Some(Duration::from_secs(SILENCE)))?;
     let wait = request.wait;
     let mut line: ArrayString<LINE> = ArrayString::new();
     let _ = fmt::Write::write_fmt(&mut line, format_args!("stop {wait}\n"));
@@ -219,37 +269,56 @@ impl<'a, W: Write> Show<'a, W> {
     fn end(self) -> StopEnd {
         match self.last {
             Some(ControlAnswer::Delivered) => StopEnd::Ran(Status::Done),
-            Some(ControlAnswer::Left(entries)) => StopEnd::Left(entries),
+            Some(ControlAnswer::Left(left)) => StopEnd::Left(left),
             _ => StopEnd::Unanswered,
         }
     }
 }
 
 /// Shows what a relay answers over a stream until it has ended, or has said nothing for long.
-fn watch<W: Write>(stream: &mut UnixStream, output: &mut W, progress: Progress) -> StopEnd {
+fn watch<W: Write>(stream: &mut UnixStream, show: &mut Show<'_, W>) -> Result<(), Silence> {
+    let mut room = [0; LINE];
+    for _ in 0..u64::MAX {
+        match stream.read(&mut room) {
+            Ok(0) => break,
+            Ok(count) => show.take(room.get(..count).unwrap_or(&[])),
+            Err(error) => match error.kind() {
+                ErrorKind::Interrupted => {}
+                ErrorKind::WouldBlock => return Err(Silence::Mute),
+                _ => return Err(Silence::Failed(error)),
+            },
+        }
+    }
+    Ok(())
+}
+
+/// Asks a relay to stop, and shows what it answers until it has ended: how the call ended, and why
+/// the relay was silent in the end, if it was.
+fn ask_and_watch<R: Net + Clock, W: Write>(
+    rt: &R,
+    request: &Request,
+    progress: Progress,
+    output: &mut W,
+) -> (StopEnd, Result<(), Silence>) {
+    let mut stream = match ask(rt, request) {
+        Ok(stream) => stream,
+        Err(silence) => return (StopEnd::Unanswered, Err(silence)),
+    };
     let mut show = Show {
         output,
         progress,
         line: ArrayString::new(),
         last: None,
     };
-    let mut room = [0; LINE];
-    for _ in 0..u64::MAX {
-        match stream.read(&mut room) {
-            Ok(0) => break,
-            Ok(count) => show.take(room.get(..count).unwrap_or(&[])),
-            Err(error) if error.kind() == ErrorKind::Interrupted => {}
-            Err(_) => break,
-        }
-    }
-    show.end()
+    let watched = watch(&mut stream, &mut show);
+    (show.end(), watched)
 }
 
 /// Has the relay of the settings in a file stop, and shows what it answers until it has ended. It
 /// ends with `Ran(Done)` where all is delivered, and with `Left` where its time was over before. A
 /// file that cannot be read, refused settings and settings without a control socket are
 /// `Ran(BadSettings)`; where no relay answers it is `Unanswered`. The errors say why.
-pub(crate) fn stop_relay<R: Net + Files + AllocGlobal, W: Write, E: Write>(
+pub(crate) fn stop_relay<R: Net + Clock + Files + AllocGlobal, W: Write, E: Write>(
     rt: &R,
     call: StopCall<'_>,
     progress: Progress,
@@ -260,21 +329,10 @@ pub(crate) fn stop_relay<R: Net + Files + AllocGlobal, W: Write, E: Write>(
         Ok(request) => request,
         Err(end) => return end,
     };
-    match ask(rt, &request) {
-        Ok(stream) => {
-            let mut stream = stream;
-            watch(&mut stream, output, progress)
-        }
-        Err(error) => {
-            let path = request.path.as_str();
-            say(
-                errors,
-                &NoAnswer {
-                    path,
-                    error: &error,
-                },
-            );
-            StopEnd::Unanswered
-        }
+    let (end, watched) = ask_and_watch(rt, &request, progress, output);
+    if let (StopEnd::Unanswered, Err(why)) = (&end, &watched) {
+        let path = request.path.as_str();
+        say(errors, &NoAnswer { path, why });
     }
+    end
 }

@@ -25,7 +25,7 @@ mod ticket_store;
 pub use admission::SharedAdmission;
 pub use connections::{Connections, Ready};
 pub use flush_timer::FlushTimer;
-pub use output::{Output, last_reports, reports_of};
+pub use output::{Output, last_reports, reports_of, unasked_in};
 pub use page_parts::{PageParts, tally_of};
 pub use peer::Peer;
 pub use reader_inboxes::{ReaderInbox, ReaderInboxes};

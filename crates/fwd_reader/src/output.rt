@@ -149,6 +149,16 @@ pub(crate) fn figures_of<J: Run, R: Wait>(
     Ok(figures)
 }
 
+/// How many entries these outputs hold of requests that asked for no acknowledgement. Each is locked
+/// by itself for a moment.
+pub fn unasked_in<J: Run, R: Wait>(rt: &R, outputs: &[Output<J>]) -> u64 {
+    let mut unasked: u64 = 0;
+    for output in outputs {
+        unasked = unasked.saturating_add(output.shared.unasked(rt));
+    }
+    unasked
+}
+
 /// What each output has to do with, in all and of each tag, in their order. Each is locked by
 /// itself for a moment. The only error is out of memory.
 pub fn reports_of<J: Run, R: Wait>(

@@ -7,6 +7,7 @@ use Rattle.fwd_modes.specs.declared.origin.Origin.{Origin}
 use Rattle.fwd_source.specs.History.{SourceHistory}
 use Rattle.fwd_source.specs.Live.{LiveSource, live_source}
 use Rattle.fwd_chunks.specs.Cells.{has_number}
+use Rattle.fwd_chunks.specs.Live.{live_buffer}
 use Rattle.fwd_book.specs.History as book
 use Rattle.fwd_book.specs.History.{is_settled, untold}
 use Rattle.fwd_book.specs.Live.{live_book}
@@ -60,18 +61,24 @@ collect_answers h id o s l known stands here =
 
 -- ---- what a run's state shows of its history
 
-record LaneBehind (h : History) (o : ℕ) (p : LiveOutput) : Type 0 where
-  lane : Lane
-  here : slice_get h.lanes o ≡ Some lane
-  book : live_book lane.output.book ≡ p.book
+pub record LaneBehind (h : History) (o : ℕ) (p : LiveOutput) : Type 0 where
+  pub lane : Lane
+  pub here : slice_get h.lanes o ≡ Some lane
+  pub buffer : live_buffer lane.output.buffer ≡ p.buffer
+  pub book : live_book lane.output.book ≡ p.book
 
-lane_behind : (h : History) (o : ℕ) (p : LiveOutput) → output_in (live h) o ≡ Some p → LaneBehind h o p
+pub lane_behind : (h : History) (o : ℕ) (p : LiveOutput) → output_in (live h) o ≡ Some p → LaneBehind h o p
 unfolding live_lane live_output
 lane_behind h o p at = by (slice_get h.lanes o) refl (sym (ap (option_map (λ (l : LiveLane). l.output)) (lane_at-live o h)) ∙ at)
   where
     by : (x : Option Lane) → slice_get h.lanes o ≡ x → option_map (λ (l : LiveLane). l.output) (option_map live_lane x) ≡ Some p → LaneBehind h o p
     by None here e = absurd cc
-    by (Some l) here e = let same : live_output l.output ≡ p = cc in record { lane = l; here = here; book = ap (λ (q : LiveOutput). q.book) same }
+    by (Some l) here e = let same : live_output l.output ≡ p = cc in record {
+      lane = l;
+      here = here;
+      buffer = ap (λ (q : LiveOutput). q.buffer) same;
+      book = ap (λ (q : LiveOutput). q.book) same;
+    }
 
 record SourceBehind (h : History) (id : ℕ) : Type 0 where
   source : SourceHistory
@@ -89,13 +96,13 @@ source_behind h sane id s at stands = by (source_at id h.connections) refl (sym 
 -- ---- the law
 
 -- what a run's history, its settings and its events of the relay have in common
-record Behind (c : Config) (es : List Event) (r : LiveRelay) : Type 0 where
-  history : History
-  sane : IsSane history
-  is : live history ≡ r
-  one : unmarked_relay history ≡ reached c es
+pub record Behind (c : Config) (es : List Event) (r : LiveRelay) : Type 0 where
+  pub history : History
+  pub sane : IsSane history
+  pub is : live history ≡ r
+  pub one : unmarked_relay history ≡ reached c es
 
-behind : (past : List RunEvent) (c : Config) (r : LiveRelay) → IsLegal MayHappen past → config_of past ≡ Some c → run_after past ≡ Some r → Behind c (relay_events past) r
+pub behind : (past : List RunEvent) (c : Config) (r : LiveRelay) → IsLegal MayHappen past → config_of past ≡ Some c → run_after past ≡ Some r → Behind c (relay_events past) r
 behind past c r legal begun after = by (run_history past) refl
   where
     by : (x : Option History) → run_history past ≡ x → Behind c (relay_events past) r
@@ -110,7 +117,7 @@ behind past c r legal begun after = by (run_history past) refl
         }
 
 -- where something is seen the relay has begun
-has_begun : {X : Type 0} (see : LiveRelay → Option X) (x : Option LiveRelay) (y : X) → seen see x ≡ Some y → (r : LiveRelay) × (x ≡ Some r) × (see r ≡ Some y)
+pub has_begun : {X : Type 0} (see : LiveRelay → Option X) (x : Option LiveRelay) (y : X) → seen see x ≡ Some y → (r : LiveRelay) × (x ≡ Some r) × (see r ≡ Some y)
 has_begun see None y is = absurd cc
 has_begun see (Some r) y is = (r, refl, is)
 

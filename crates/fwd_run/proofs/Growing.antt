@@ -36,7 +36,7 @@ use Rattle.fwd_model.specs.Delivered.{reached}
 use Rattle.fwd_model.proofs.Onward.{Onward, to, past, past_found, at_next, source_on, lane_on, both_on, worker_on}
 use Rattle.fwd_model.proofs.Orders.Changes.{differ, same_number, slice_get-set_other}
 use Rattle.fwd_history.specs.Histories.{IsLegal}
-use Rattle.fwd_run.specs.Runs.{RunEvent, Opens, Relay, Leave, MayHappen, is_of_fates, begun, config_of, with_event, relay_events}
+use Rattle.fwd_run.specs.Runs.{RunEvent, Opens, Relay, Leave, MayHappen, is_left_out, begun, config_of, with_event, relay_events}
 use Rattle.fwd_run.proofs.Staying.{always, told_as}
 use Rattle.fwd_run.proofs.Marks.{unmarked, after_append}
 use Rattle.fwd_run.proofs.Receiving.{IsEntered}
@@ -49,7 +49,7 @@ pub record Grown (l m : Lane) : Type 0 where
   pub settled : m.output.book.settled ≡ l.output.book.settled ++ acks
 
 -- with the same book
-alike : (l m : Lane) → m.output.book ≡ l.output.book → Grown l m
+pub alike : (l m : Lane) → m.output.book ≡ l.output.book → Grown l m
 alike l m same = record {
   admissions = [];
   requests = ap (λ b. b.admissions) same ∙ sym (append-nil l.output.book.admissions);
@@ -57,7 +57,7 @@ alike l m same = record {
   settled = ap (λ b. b.settled) same ∙ sym (append-nil l.output.book.settled);
 }
 
-further : (k l m : Lane) → Grown k l → Grown l m → Grown k m
+pub further : (k l m : Lane) → Grown k l → Grown l m → Grown k m
 further k l m a b = record {
   admissions = a.admissions ++ b.admissions;
   requests = b.requests ∙ ap (λ xs. xs ++ b.admissions) a.requests ∙ append_assoc k.output.book.admissions a.admissions b.admissions;
@@ -65,10 +65,10 @@ further k l m a b = record {
   settled = b.settled ∙ ap (λ xs. xs ++ b.acks) a.settled ∙ append_assoc k.output.book.settled a.acks b.acks;
 }
 
-one_lane : {x y : Lane} → Some x ≡ Some y → x ≡ y
+pub one_lane : {x y : Lane} → Some x ≡ Some y → x ≡ y
 one_lane e = cc
 
-put_here : {X : Type 0} (xs : List X) (o : ℕ) (x y : X) → slice_get xs o ≡ Some x → slice_get (set xs o y) o ≡ Some y
+pub put_here : {X : Type 0} (xs : List X) (o : ℕ) (x y : X) → slice_get xs o ≡ Some x → slice_get (set xs o y) o ≡ Some y
 put_here [] o x y h = absurd cc
 put_here (a ∷ xs) zero x y h = refl
 put_here (a ∷ xs) (suc o) x y h = put_here xs o x y h
@@ -170,7 +170,7 @@ module _ (h : History) (o : ℕ) (l : Lane) (here : slice_get h.lanes o ≡ Some
   source_has id f =
       next_has (steps.at_source histories h id f) (source_on histories h id (λ a s. Has o l s) f (λ s known. always (f s) (λ a t. record { lane = l; here = here; grown = alike l l refl })))
 
-  pub event_has : (e : Event) → is_of_fates e ≡ false → Has o l (state_of h (step histories h e))
+  pub event_has : (e : Event) → is_left_out e ≡ false → Has o l (state_of h (step histories h e))
   event_has (event.Accept id nonce auth) plain = next_has (step histories h (event.Accept id nonce auth)) (past _ (λ fresh. to (record { lane = l; here = here; grown = alike l l refl })))
   event_has (event.Piece id bytes) plain = source_has id (λ s. steps.piece histories s bytes)
   event_has (event.Admit id p now) plain =

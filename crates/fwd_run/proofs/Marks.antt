@@ -32,7 +32,7 @@ use Rattle.fwd_model.specs.Outputs.{OutputHistory}
 use Rattle.fwd_model.specs.History.{Lane, History, histories, new_lane, new_lanes, opening, source_at, with_output, with_lane, with_connection}
 use Rattle.fwd_model.specs.Delivered.{reached}
 use Rattle.fwd_history.specs.Histories.{IsLegal}
-use Rattle.fwd_run.specs.Runs.{RunEvent, Opens, Relay, Leave, MayHappen, is_of_fates, begun, config_of, with_event, relay_events}
+use Rattle.fwd_run.specs.Runs.{RunEvent, Opens, Relay, Leave, MayHappen, is_left_out, begun, config_of, with_event, relay_events}
 use Rattle.fwd_run.proofs.Histories.{lane_forgets, put_at, history_next, history_moved, run_history}
 
 -- nothing became of a request, of any
@@ -226,7 +226,7 @@ module _ (h : History) where
       whole (Stays a) = refl
       whole (Goes a t) = refl
 
-  event_alike : (e : Event) → is_of_fates e ≡ false → U (state_of h (step histories h e)) ≡ state_of (U h) (step histories (U h) e)
+  event_alike : (e : Event) → is_left_out e ≡ false → U (state_of h (step histories h e)) ≡ state_of (U h) (step histories (U h) e)
   event_alike (event.Accept id nonce auth) plain = check_alike (not (histories.is_fresh h id)) _ _ _ refl
   event_alike (event.Piece id bytes) plain = source_alike id (λ s. steps.piece histories s bytes)
   event_alike (event.Admit id o now) plain = both_alike id o (steps.admit histories h.routes id o now) (admit_blind h.routes id o now)

@@ -1,9 +1,35 @@
--- What whoever has the page of a part knows of it: what it is after the history that is known there.
-use Rattle.std.specs.Prelude.{◌≡◌, ℕ, suc, ◌≤◌, ◌<◌, ◌-◌, ◌^◌, ◌==◌, List, [], ◌∷◌, ◌++◌, map, Option, Some, None, option_map, if◌then◌else◌}
+-- What whoever has the page of a part knows of it: what it is after the history that is known
+-- there.
+use Rattle.std.specs.Prelude.{
+  ◌≡◌,
+  ℕ,
+  suc,
+  ◌≤◌,
+  ◌<◌,
+  ◌-◌,
+  ◌^◌,
+  ◌==◌,
+  List,
+  [],
+  ◌∷◌,
+  ◌++◌,
+  map,
+  Option,
+  Some,
+  None,
+  option_map,
+  if◌then◌else◌,
+}
 use Rattle.std.specs.List.{AllByRecursion}
 use Rattle.fwd_chunks.specs.declared.wanted.Wanted.{Wanted}
 use Rattle.fwd_chunks.specs.History.{CarriedChunk}
-use Rattle.fwd_chunks.specs.Live.{LiveBuffer, IsCarried, live_carried_chunk, live_given_for, live_looks}
+use Rattle.fwd_chunks.specs.Live.{
+  LiveBuffer,
+  IsCarried,
+  live_carried_chunk,
+  live_given_for,
+  live_looks,
+}
 use Rattle.fwd_msgpack.specs.declared.limits.Limits.{Limits}
 use Rattle.fwd_handshake.specs.declared.credentials.Security.{Security}
 use Rattle.fwd_source.specs.Live.{LiveSource}
@@ -27,8 +53,8 @@ pub record EndedOutput : Type 0 where
   pub output : ℕ
   pub past : List RunEvent
 
--- a worker of an output, and what the output is set to: the chunk that it took and did not load, and
--- its session
+-- a worker of an output, and what the output is set to: the chunk that it took and did not load,
+-- and its session
 pub record WorkerKnown : Type 0 where
   pub output : ℕ
   pub worker : ℕ
@@ -47,10 +73,11 @@ pub record IdsKnown : Type 0 where
   pub security : Option Security
   pub limits : Option Limits
 
--- how many pages a run has, and the greatest id of a connection that there is a page for
+-- how many pages a run has
 abbrev pub page_count : ℕ
 page_count = 2 ^ 64 - 1
 
+-- the greatest id of a connection that there is a page for
 abbrev pub last_source : ℕ
 last_source = 2 ^ 64 - 2051
 
@@ -75,9 +102,11 @@ pub record IsSeenAs (config seen : Config) : Type 0 where
 
 -- the output of a number is set so after a history: it has no request yet, and each of its workers
 -- has nothing
-pub record IsNew (past : List RunEvent) (run : List ℕ) (output : ℕ) (config : OutputConfig) : Type 0 where
+pub record IsNew (past : List RunEvent) (run : List ℕ) (output : ℕ)
+    (config : OutputConfig) : Type 0 where
   pub settings : settings_at past output ≡ Some config
-  pub is : output_at past output ≡ Some (no_requests (setting_of run output config) (servers_of config))
+  pub is : output_at past output
+      ≡ Some (no_requests (setting_of run output config) (servers_of config))
   pub workers : (worker : ℕ) → worker < config.workers
       → worker_at past output worker ≡ Some (record { taken = None; session = None })
 

@@ -51,23 +51,26 @@ use Rattle.fwd_model.specs.Names.{Named, Connection, Output, Session, is_accept,
 
 -- The run begins, with these settings. Or there is an event of the abstract relay. Or requests of
 -- some origins are owed an answer at an output no more: they were answered, or nobody is to be told
--- of them. The abstract relay tells of a connection's requests in one event. A reader asks an output
--- only for those that it waits for.
+-- of them. The abstract relay tells of a connection's requests in one event. A reader asks an
+-- output only for those that it waits for.
 pub data RunEvent : Type 0 where
   Opens : (config : Config) → RunEvent
   Relay : (e : Event) → RunEvent
   Leave : (output : ℕ) (origins : List Origin) → RunEvent
 
--- the event tells requests, or says that nobody is to be told of them
-abbrev pub is_of_fates : Event → Bool
-is_of_fates (event.Collect id o) = true
-is_of_fates (event.Forget id o) = true
-is_of_fates _ = false
+-- no run has the event: it tells requests, or says that nobody is to be told of them, or that a
+-- connection is known no more
+abbrev pub is_left_out : Event → Bool
+is_left_out (event.Collect id o) = true
+is_left_out (event.Forget id o) = true
+is_left_out (event.Shut id) = true
+is_left_out _ = false
 
--- requests are answered and forgotten as readers do it, and not as the abstract relay does
+-- requests are answered and forgotten as readers do it, and not as the abstract relay does; and a
+-- connection that ended stays known
 abbrev pub MayHappen : List RunEvent → RunEvent → Type 0
 MayHappen past (Opens config) = Unit {0}
-MayHappen past (Relay e) = is_of_fates e ≡ false
+MayHappen past (Relay e) = is_left_out e ≡ false
 MayHappen past (Leave o origins) = Unit {0}
 
 -- ---- what it leads to

@@ -2,6 +2,7 @@
 
 ghost use Rattle.std.specs.Prelude.{◌≡◌, ℕ, List, Some, false, slice_get};
 ghost use Rattle.fwd_modes.specs.declared.origin.Origin.{Origin};
+ghost use Rattle.fwd_chunks.specs.Live.{live_counts};
 ghost use Rattle.fwd_source.specs.Live.{LiveSource};
 ghost use Rattle.fwd_book.specs.Receipts.{Receipt, receipts};
 ghost use Rattle.fwd_history.specs.Histories.{Comes, IsLegal, Went};
@@ -10,6 +11,7 @@ ghost use Rattle.fwd_model.specs.Delivered.{IsDelivered, reached};
 ghost use Rattle.fwd_model.specs.Live.{LiveRelay, live};
 ghost use Rattle.fwd_model.specs.Names.{Connection, Output, Session};
 ghost use Rattle.fwd_model.specs.Outputs.{LiveOutput};
+ghost use Rattle.fwd_run.specs.Entered.{HasEntered};
 ghost use Rattle.fwd_run.specs.Runs.{
   MayHappen,
   RunEvent,
@@ -57,4 +59,13 @@ pub fn run_delivers()
         slice_get (receipts p.book.settled p.book.requests origins) i ≡ Some receipt →
         source_at past receipt.origin.conn ≡ Some s → s.shut ≡ false →
         IsDelivered config (relay_events past) receipt.origin.conn receipt.origin.request o }
+{}
+
+/// Behind a run's history an output that holds nothing has delivered each request that entered it,
+/// whether its source asks for acknowledgements or not, and was told or not.
+pub fn empty_output_has_delivered()
+    ensures { (past : List RunEvent) (config : Config) (o : ℕ) (p : LiveOutput) (id r : ℕ) →
+        IsLegal MayHappen past → config_of past ≡ Some config → output_at past o ≡ Some p →
+        (live_counts p.buffer).held ≡ 0 → HasEntered config (relay_events past) id r o →
+        IsDelivered config (relay_events past) id r o }
 {}

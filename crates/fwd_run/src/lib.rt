@@ -16,7 +16,7 @@ mod step;
 mod worker_page;
 
 pub use ended_page::EndedPage;
-pub use laws::{parts_stay, run_delivers, run_is_the_relays};
+pub use laws::{empty_output_has_delivered, parts_stay, run_delivers, run_is_the_relays};
 pub use opening::{open_run, skip};
 pub use output_page::OutputPage;
 pub use run_event::{OpenedRun, ReachedHistory, RunEvent, RunLaw, RunPage, RunPages};

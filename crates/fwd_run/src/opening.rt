@@ -35,8 +35,8 @@ impl Deed<Config, RunEvent> for Begins {
     ghost means = { λ config past e. (seen : Config) × (e ≡ Opens seen) × IsSeenAs config seen };
 }
 
-/// A run begins, with these settings, but that each output has one worker more: nothing has happened
-/// yet.
+/// A run begins, with these settings, but that each output has one worker more: nothing has
+/// happened yet.
 pub fn open_run<J: Run>(page: &mut RunPage<J>, config: &Config) -> ReachedHistory<J>
     requires { (page.old.0 ≡ id_key) × (page.old.1 ≡ []) }
     ensures begun { (seen : Config) × IsSeenAs config.now seen × (config_of result ≡ Some seen)

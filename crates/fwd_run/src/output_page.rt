@@ -1,6 +1,21 @@
 //! An output's page in the history of its run.
 
-ghost use Rattle.std.specs.Prelude.{◌≡◌, ◌<◌, ◌+◌, ℕ, List, [], ◌∷◌, ◌++◌, Some, None, false, is_some, map, option_to_list};
+ghost use Rattle.std.specs.Prelude.{
+  ◌≡◌,
+  ◌<◌,
+  ◌+◌,
+  ℕ,
+  List,
+  [],
+  ◌∷◌,
+  ◌++◌,
+  Some,
+  None,
+  false,
+  is_some,
+  map,
+  option_to_list,
+};
 ghost use Rattle.fwd_chunks.specs.History.{BufferSetting};
 ghost use Rattle.fwd_modes.specs.Requests.{Request};
 ghost use Rattle.fwd_match.specs.Patterns.{route};
@@ -16,7 +31,14 @@ ghost use Rattle.fwd_model.specs.Layers.{Worker};
 ghost use Rattle.fwd_model.specs.Live.{lives};
 ghost use Rattle.fwd_model.specs.Names.{Output};
 ghost use Rattle.fwd_model.specs.Outcome.{first_of};
-ghost use Rattle.fwd_model.specs.Outputs.{LiveOutput, no_requests, output_ends, output_enters, output_looks, output_settles};
+ghost use Rattle.fwd_model.specs.Outputs.{
+  LiveOutput,
+  no_requests,
+  output_ends,
+  output_enters,
+  output_looks,
+  output_settles,
+};
 ghost use Rattle.fwd_model.specs.Step.{
   gives_back,
   has_acked,
@@ -215,8 +237,8 @@ impl<J: Run> OutputPage<J> {
         self.page.add_with::<Step<'_>, Is>(&mut worker.page, &step);
     }
 
-    /// A worker's session is no more, at a moment (milliseconds): what the worker has is given back,
-    /// and its server may be lost.
+    /// A worker's session is no more, at a moment (milliseconds): what the worker has is given
+    /// back, and its server may be lost.
     pub fn end(&mut self, worker: &mut WorkerPage<J>, kind: EndKind, now: u64)
         requires same { worker.old.output ≡ self.old.output }
         ensures held { (p : LiveOutput) (x : Worker LiveSession) → self.old.is ≡ Some p

@@ -74,7 +74,8 @@ impl<J: Run> SourceIds<J> {
         self.next
     }
 
-    /// A connection comes, with this nonce and this auth salt, and gets the next id, if one is left.
+    /// A connection comes, with this nonce and this auth salt, and gets the next id, if one is
+    /// left.
     pub fn accept(&mut self, nonce: [u8; 16], auth: [u8; 16]) -> Option<SourcePage<J>>
         ensures given { IfSome result (λ page. self.old.next ≡ Some page.id) }
         ensures is { (security : Security) (limits : Limits) →

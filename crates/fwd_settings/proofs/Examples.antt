@@ -1,6 +1,6 @@
 -- The definitions at work on small values and texts.
 use Rattle.std.proofs.Common.{◌≡◌, [], ◌∷◌, Some, None, pos, negsuc, refl}
-use Rattle.std.specs.Prelude.{codes, replicate}
+use Rattle.std.specs.Prelude.{codes, replicate, ◌++◌}
 use Rattle.std.specs.Fmt.{digits}
 use Rattle.std.specs.Net.Reader.{read_number, read_octet, read_ipv4, read_segment, read_segments, read_ipv6, read_port, read_scope_id, read_socket_v4, read_socket_v6}
 use Rattle.hex.specs.Hex.{decode_pairs}
@@ -10,7 +10,7 @@ use Rattle.fwd_settings.specs.declared.table_path.TablePath.TheVariants.{Output,
 use Rattle.fwd_settings.specs.declared.table_path.Flaw.TheVariants.{WrongKind, OutOfRange}
 use Rattle.fwd_settings.specs.Addresses.{v4_from, v6_from, socket_of, address_of_text, at_colon}
 use Rattle.fwd_settings.specs.Faults.{key_under, fault_text}
-use Rattle.fwd_settings.specs.Kinds.{number_flaw, flag_flaw, text_flaw, digits_flaw, path_of_text, fault_at, setting_at, number_key, text_key, optional_text_key, required_address_key}
+use Rattle.fwd_settings.specs.Kinds.{number_flaw, flag_flaw, text_flaw, path_flaw, digits_flaw, path_of_text, fault_at, setting_at, number_key, text_key, optional_text_key, required_address_key}
 use Rattle.fwd_settings.specs.Keys.{retry_max, output_shared_key, login_table, first, server_fault}
 use Rattle.fwd_settings.specs.Unknown.{least}
 
@@ -31,6 +31,25 @@ a_number_is_no_flag = refl
 
 an_empty_name : text_flaw 1 255 (string (codes "")) ≡ Some OutOfRange
 an_empty_name = refl
+
+a_control_path : path_flaw (string (codes "run/control")) ≡ None
+a_control_path = refl
+
+no_path : path_flaw (string (codes "")) ≡ Some OutOfRange
+no_path = refl
+
+-- 0 ends a path where the system reads it
+a_path_with_a_zero : path_flaw (string (codes "run" ++ 0 ∷ codes "control")) ≡ Some OutOfRange
+a_path_with_a_zero = refl
+
+a_path_of_107 : path_flaw (string (replicate 107 97)) ≡ None
+a_path_of_107 = refl
+
+a_path_too_long : path_flaw (string (replicate 108 97)) ≡ Some OutOfRange
+a_path_too_long = refl
+
+a_number_is_no_path : path_flaw (integer (pos 1)) ≡ Some WrongKind
+a_number_is_no_path = refl
 
 either_case : digits_flaw 2 (string (codes "aBC9")) ≡ None
 unfolding decode_pairs

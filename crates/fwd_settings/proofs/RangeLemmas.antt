@@ -12,7 +12,7 @@ use Rattle.fwd_settings.specs.declared.table_path.TablePath.TheVariants.{Root, R
 use Rattle.fwd_settings.specs.declared.settings.Settings.{Settings}
 use Rattle.fwd_settings.specs.declared.settings.ServerSettings.{ServerSettings}
 use Rattle.fwd_settings.specs.Faults.{fault_with, key_under}
-use Rattle.fwd_settings.specs.Kinds.{Key, optional, required, given, unless_out, is_within, number_flaw, number_of, number_key, optional_number_key, text_flaw, text_key, optional_text_key, required_text_key, data_in, list_flaw, list_of, required_list_key, allowed_list_flaw, optional_list_key, each, fault_at, setting_at}
+use Rattle.fwd_settings.specs.Kinds.{Key, optional, required, given, unless_out, is_within, is_path, path_flaw, number_flaw, number_of, number_key, optional_number_key, text_flaw, text_key, optional_text_key, optional_path_key, required_text_key, data_in, list_flaw, list_of, required_list_key, allowed_list_flaw, optional_list_key, each, fault_at, setting_at}
 use Rattle.fwd_settings.specs.Keys.{first, table_in, outputs, relay_table, relay_settings, connections, message_limit, depth, readers, idle_limit, control, stop_wait, relay_hostname, shared_key, users, user_name, user_password, user_table, user_fault, user_settings, output_table, output_fault, output_settings, retry_wait, output_shared_key, username, password, servers, server_settings, is_standby, standby_fault}
 use Rattle.fwd_settings.specs.Whole.{relay_fault, root_table, root_settings, judged, of_document, document_of, settings_of}
 use Rattle.fwd_settings.specs.declared.ranges.TheConstants.{ACK_WAIT_DEFAULT, CHUNK_LIMIT_DEFAULT, CHUNK_LIMIT_MAX, CONNECTIONS_DEFAULT, CONNECTIONS_MAX, CONTROL_MAX, DEPTH_DEFAULT, DEPTH_MAX, DEPTH_MIN, FLUSH_INTERVAL_DEFAULT, MESSAGE_LIMIT_DEFAULT, MESSAGE_LIMIT_MAX, MESSAGE_LIMIT_MIN, NAME_MAX, OUTPUTS_MAX, READERS_DEFAULT, READERS_MAX, RETRY_MAX_DEFAULT, RETRY_WAIT_DEFAULT, SERVERS_MAX, SHARED_KEY_MAX, STOP_WAIT_DEFAULT, TOTAL_LIMIT_DEFAULT, TOTAL_LIMIT_MAX, WAIT_MAX, WINDOW_DEFAULT, WINDOW_MAX, WORKERS_DEFAULT, WORKERS_MAX}
@@ -120,10 +120,10 @@ key_within : (place : TablePath) (members : Members) → fault_at place members 
 unfolding setting_at optional_text_key
 key_within place members h = key_given (get_member (codes "shared_key") members) (no_flaw place members shared_key h)
 
-control_given : (value : Option Data) → optional (text_flaw 1 CONTROL_MAX) value ≡ None
+control_given : (value : Option Data) → optional path_flaw value ≡ None
     → control_in_range (option_and_then as_str value) ≡ true
 control_given None h = refl
-control_given (Some (string x)) h = within (is_within 1 CONTROL_MAX (length x)) h
+control_given (Some (string x)) h = within (is_path x) h
 control_given (Some (integer x)) h = absurd cc
 control_given (Some (float x)) h = absurd cc
 control_given (Some (boolean x)) h = absurd cc
@@ -133,7 +133,7 @@ control_given (Some (table x)) h = absurd cc
 
 control_within : (place : TablePath) (members : Members) → fault_at place members control ≡ None
     → control_in_range (setting_at members control) ≡ true
-unfolding setting_at optional_text_key
+unfolding setting_at optional_path_key
 control_within place members h = control_given (get_member (codes "control") members) (no_flaw place members control h)
 
 limit_given : (value : Option Data) → optional (number_flaw 1 WAIT_MAX) value ≡ None

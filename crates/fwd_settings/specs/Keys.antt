@@ -23,7 +23,7 @@ use Rattle.fwd_settings.specs.declared.output.LoginSettings.{LoginSettings}
 use Rattle.fwd_settings.specs.declared.ranges.TheConstants.{ACK_WAIT_DEFAULT, CHUNK_LIMIT_DEFAULT, CHUNK_LIMIT_MAX, CONNECTIONS_DEFAULT, CONNECTIONS_MAX, CONTROL_MAX, DEPTH_DEFAULT, DEPTH_MAX, DEPTH_MIN, FLUSH_INTERVAL_DEFAULT, MESSAGE_LIMIT_DEFAULT, MESSAGE_LIMIT_MAX, MESSAGE_LIMIT_MIN, NAME_MAX, OUTPUTS_MAX, READERS_DEFAULT, READERS_MAX, RETRY_MAX_DEFAULT, RETRY_WAIT_DEFAULT, SERVERS_MAX, SHARED_KEY_MAX, STOP_WAIT_DEFAULT, TOTAL_LIMIT_DEFAULT, TOTAL_LIMIT_MAX, WAIT_MAX, WINDOW_DEFAULT, WINDOW_MAX, WORKERS_DEFAULT, WORKERS_MAX}
 use Rattle.fwd_settings.specs.Addresses.{home}
 use Rattle.fwd_settings.specs.Faults.{own_key, key_under}
-use Rattle.fwd_settings.specs.Kinds.{Key, each, fault_at, setting_at, number_key, optional_number_key, flag_key, when_full_key, text_key, optional_text_key, required_text_key, digits_key, address_key, listen_key_or, required_address_key, required_pattern_key, required_list_key, optional_list_key}
+use Rattle.fwd_settings.specs.Kinds.{Key, each, fault_at, setting_at, number_key, optional_number_key, flag_key, when_full_key, text_key, optional_text_key, required_text_key, optional_path_key, digits_key, address_key, listen_key_or, required_address_key, required_pattern_key, required_list_key, optional_list_key}
 
 -- the first of some faults
 abbrev pub first : List (Option SettingsFault) → Option SettingsFault
@@ -106,9 +106,9 @@ metrics = flag_key (codes "metrics") false
 abbrev pub idle_limit : Key (Option ℕ)
 idle_limit = optional_number_key (codes "idle_limit") 1 WAIT_MAX
 
--- the path of the socket over which the relay is asked to stop, if there is one: at least 1 byte
+-- the path of the socket over which the relay is asked to stop, if there is one
 abbrev pub control : Key (Option (List ℕ))
-control = optional_text_key (codes "control") 1 CONTROL_MAX
+control = optional_path_key (codes "control")
 
 -- how long the relay has to deliver what it holds once it is asked to stop, in milliseconds
 abbrev pub stop_wait : Key ℕ

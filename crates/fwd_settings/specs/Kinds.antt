@@ -139,6 +139,22 @@ unfoldable pub required_text_key : List ℕ → (least most : ℕ) → Key (List
 required_text_key name least most =
     record { name = name; flaw = required (text_flaw least most); setting = given as_str [] }
 
+-- ---- paths of sockets, which stand alone
+
+-- a path that a socket may have: no longer than the system has room for, and without a byte of 0
+abbrev pub is_path : List ℕ → Bool
+is_path path = is_within 1 CONTROL_MAX (length path) && not (list_any is_zero path)
+
+-- what is wrong with a value where such a path is asked for
+abbrev pub path_flaw : Data → Option Flaw
+path_flaw (string text) = unless_out (is_path text)
+path_flaw _ = Some WrongKind
+
+-- the path of a socket, if there is one
+unfoldable pub optional_path_key : List ℕ → Key (Option (List ℕ))
+optional_path_key name =
+    record { name = name; flaw = optional path_flaw; setting = option_and_then as_str }
+
 -- ---- so many bytes, each as two hex digits of either case
 
 -- what is wrong with a value where the hexadecimal digits of so many bytes are asked for

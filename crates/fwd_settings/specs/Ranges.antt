@@ -5,8 +5,8 @@ use Rattle.fwd_settings.specs.declared.settings.RelaySettings.{RelaySettings}
 use Rattle.fwd_settings.specs.declared.settings.UserSettings.{UserSettings}
 use Rattle.fwd_settings.specs.declared.settings.OutputSettings.{OutputSettings}
 use Rattle.fwd_settings.specs.declared.settings.Settings.{Settings}
-use Rattle.fwd_settings.specs.declared.ranges.TheConstants.{CHUNK_LIMIT_MAX, CONNECTIONS_MAX, CONTROL_MAX, DEPTH_MAX, DEPTH_MIN, MESSAGE_LIMIT_MAX, MESSAGE_LIMIT_MIN, NAME_MAX, OUTPUTS_MAX, READERS_MAX, SERVERS_MAX, SHARED_KEY_MAX, TOTAL_LIMIT_MAX, WAIT_MAX, WINDOW_MAX, WORKERS_MAX}
-use Rattle.fwd_settings.specs.Kinds.{is_within}
+use Rattle.fwd_settings.specs.declared.ranges.TheConstants.{CHUNK_LIMIT_MAX, CONNECTIONS_MAX, DEPTH_MAX, DEPTH_MIN, MESSAGE_LIMIT_MAX, MESSAGE_LIMIT_MIN, NAME_MAX, OUTPUTS_MAX, READERS_MAX, SERVERS_MAX, SHARED_KEY_MAX, TOTAL_LIMIT_MAX, WAIT_MAX, WINDOW_MAX, WORKERS_MAX}
+use Rattle.fwd_settings.specs.Kinds.{is_path, is_within}
 
 -- a user's name and password have a length that is allowed
 abbrev pub user_in_range : UserSettings → Bool
@@ -17,10 +17,10 @@ abbrev pub key_in_range : Option (List ℕ) → Bool
 key_in_range None = true
 key_in_range (Some key) = is_within 1 SHARED_KEY_MAX (length key)
 
--- the path of a control socket, if one is set, has a length that is allowed
+-- the path of a control socket, if one is set, is one that a socket may have
 abbrev pub control_in_range : Option (List ℕ) → Bool
 control_in_range None = true
-control_in_range (Some path) = is_within 1 CONTROL_MAX (length path)
+control_in_range (Some path) = is_path path
 
 -- a limit of a time, if one is set, is at most a day
 abbrev pub limit_in_range : Option ℕ → Bool

@@ -11,7 +11,7 @@ ghost use Rattle.fwd_settings.specs.Addresses.{home};
 
 use crate::fault::SettingsFault;
 use crate::ranges::{
-    CONNECTIONS_DEFAULT, CONNECTIONS_MAX, CONTROL_MAX, DEPTH_DEFAULT, DEPTH_MAX, DEPTH_MIN,
+    CONNECTIONS_DEFAULT, CONNECTIONS_MAX, DEPTH_DEFAULT, DEPTH_MAX, DEPTH_MIN,
     MESSAGE_LIMIT_DEFAULT, MESSAGE_LIMIT_MAX, MESSAGE_LIMIT_MIN, NAME_MAX, READERS_DEFAULT,
     READERS_MAX, SHARED_KEY_MAX, STOP_WAIT_DEFAULT, WAIT_MAX,
 };
@@ -130,7 +130,7 @@ fn relay_in(alloc: Global, table: &Table) -> Result<RelaySettings, SettingsFault
     let users = users_in(alloc, table, identity.shared_key.is_some())?;
     let metrics = relay.flag(alloc, "metrics", false)?;
     let idle_limit = relay.optional_number(alloc, "idle_limit", 1, WAIT_MAX)?;
-    let control = relay.optional_text(alloc, "control", 1, CONTROL_MAX)?;
+    let control = relay.optional_path(alloc, "control")?;
     let stop_wait = relay.number(alloc, "stop_wait", 1, WAIT_MAX, STOP_WAIT_DEFAULT)?;
     Ok(RelaySettings {
         listen,

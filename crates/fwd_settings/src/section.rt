@@ -3,7 +3,7 @@
 ghost use Rattle.std.specs.Prelude.{◌≡◌, ◌≢◌, ◌≤◌, map, IfOk, IfErr, Some, None, option_map};
 ghost use Rattle.toml.specs.Data.{get_member};
 ghost use Rattle.toml.specs.View.{view, table_view};
-ghost use Rattle.fwd_settings.specs.Kinds.{Reads, number_key, optional_number_key, flag_key, when_full_key, text_key, optional_text_key, required_text_key, digits_key, address_key, listen_key_or, required_address_key, required_pattern_key, required_list_key, optional_list_key, fault_at, setting_at};
+ghost use Rattle.fwd_settings.specs.Kinds.{Reads, number_key, optional_number_key, flag_key, when_full_key, text_key, optional_text_key, required_text_key, optional_path_key, digits_key, address_key, listen_key_or, required_address_key, required_pattern_key, required_list_key, optional_list_key, fault_at, setting_at};
 ghost use Rattle.fwd_settings.specs.Keys as keys;
 
 use crate::fault::SettingsFault;
@@ -11,8 +11,8 @@ use crate::ranges::{RETRY_MAX_DEFAULT, WAIT_MAX};
 use crate::settings::{ListenAddress, WhenFull};
 use crate::table_path::{Flaw, TablePath};
 use crate::values::{
-    address_in, allowed_list_in, digits_in, flag_in, list_in, number_in, path_in, text_in,
-    when_full_in,
+    address_in, allowed_list_in, digits_in, flag_in, list_in, number_in, path_in, socket_path_in,
+    text_in, when_full_in,
 };
 use fwd_base::Text;
 use fwd_match::{Pattern, PatternFault};
@@ -241,6 +241,26 @@ impl<'a> Section<'a> {
             None => Err(self.place.fault(alloc, name, Flaw::Missing)),
             Some(value) => match text_in(value, least, most) {
                 Ok(text) => Ok(Text::from_str(alloc, text)?),
+                Err(flaw) => Err(self.place.fault(alloc, name, flaw)),
+            },
+        }
+    }
+
+    /// The path of a socket, if there is one.
+    #[rattlefmt::skip]
+    #[tactic(auto, unfolding(
+        crate::specs::Kinds::fault_at,
+        crate::specs::Kinds::setting_at,
+        crate::specs::Kinds::optional_path_key
+    ))]
+    pub fn optional_path(&self, alloc: Global, name: &str) -> Result<Option<Text>, SettingsFault>
+        ensures { Reads self.now.place (table_view self.now.table.now)
+            (optional_path_key name.now) result }
+    {
+        match self.get(name) {
+            None => Ok(None),
+            Some(value) => match socket_path_in(value) {
+                Ok(path) => Ok(Some(Text::from_str(alloc, path)?)),
                 Err(flaw) => Err(self.place.fault(alloc, name, flaw)),
             },
         }

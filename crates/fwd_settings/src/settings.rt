@@ -74,7 +74,8 @@ pub struct RelaySettings {
     /// How long a source has to be silent, in milliseconds, 1 to 86,400,000, that gives its place
     /// to a new one where all are taken. Where it is not set none does.
     pub idle_limit: Option<u64>,
-    /// The path of the socket over which the relay is asked to stop, 1 to 107 bytes, if it is.
+    /// The path of the socket over which the relay is asked to stop, 1 to 107 bytes without a zero
+    /// byte, if it is.
     pub control: Option<Text>,
     /// How long the relay has to deliver what it holds once it is asked to stop, where who asks
     /// does not say, in milliseconds, 1 to 86,400,000.

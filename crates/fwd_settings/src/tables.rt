@@ -23,6 +23,8 @@ pub enum Allowed {
     RetryMax,
     /// A text of a least to a greatest number of bytes.
     Text(usize, usize),
+    /// The path of a socket.
+    Path,
     /// So many hexadecimal digits.
     Digits(usize),
     /// A numeric address, or the path of a Unix socket.
@@ -59,6 +61,10 @@ impl fmt::Display for Allowed {
             Allowed::Text(least, most) => {
                 write!(f, "a text of {least} to {most} bytes, in quotes")
             }
+            Allowed::Path => write!(
+                f,
+                "a path of 1 to {CONTROL_MAX} bytes without a zero byte, in quotes"
+            ),
             Allowed::Digits(count) => write!(f, "{count} hexadecimal digits, in quotes"),
             Allowed::Listen => write!(
                 f,
@@ -166,7 +172,7 @@ static RELAY: [KeyRule; 15] = [
     },
     KeyRule {
         name: "control",
-        allowed: Allowed::Text(1, CONTROL_MAX),
+        allowed: Allowed::Path,
     },
     KeyRule {
         name: "stop_wait",

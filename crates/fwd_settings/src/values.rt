@@ -3,7 +3,7 @@
 ghost use Rattle.std.specs.Prelude.{◌≡◌, ◌≤◌, IfOk, IfErr, Some, None, false, map, option_map};
 ghost use Rattle.toml.specs.Data.{as_str, as_bool};
 ghost use Rattle.toml.specs.View.{view};
-ghost use Rattle.fwd_settings.specs.Kinds.{given, number_flaw, number_of, flag_flaw, text_flaw, when_full_flaw, when_full_of, digits_flaw, bytes_of, address_flaw, list_of, list_flaw, allowed_list_flaw};
+ghost use Rattle.fwd_settings.specs.Kinds.{given, number_flaw, number_of, flag_flaw, text_flaw, path_flaw, when_full_flaw, when_full_of, digits_flaw, bytes_of, address_flaw, list_of, list_flaw, allowed_list_flaw};
 ghost use Rattle.fwd_settings.specs.Kinds as spec;
 ghost use Rattle.fwd_settings.specs.Addresses.{address_of_text, at_colon, behind_unix, is_absolute, socket_of};
 
@@ -73,6 +73,28 @@ pub fn text_in(value: &Value, least: usize, most: usize) -> Result<&str, Flaw>
     let text = value.as_str().ok_or(Flaw::WrongKind)?;
     if least <= text.len() && text.len() <= most {
         Ok(text)
+    } else {
+        Err(Flaw::OutOfRange)
+    }
+}
+
+/// Whether a path is one that a socket may have: of at most so many bytes as the system has room
+/// for, none of which is 0.
+fn is_path(path: &str) -> bool
+    ensures { result ≡ spec.is_path path.now }
+{
+    1 <= path.len() && path.len() <= CONTROL_MAX && !path.as_bytes().contains(&0)
+}
+
+/// The path of a socket, which stands alone.
+pub fn socket_path_in(value: &Value) -> Result<&str, Flaw>
+    ensures ok { IfOk result (λ path. (as_str (view value.now) ≡ Some path.now)
+        × (path_flaw (view value.now) ≡ None)) }
+    ensures flaw { IfErr result (λ flaw. path_flaw (view value.now) ≡ Some flaw) }
+{
+    let path = value.as_str().ok_or(Flaw::WrongKind)?;
+    if is_path(path) {
+        Ok(path)
     } else {
         Err(Flaw::OutOfRange)
     }

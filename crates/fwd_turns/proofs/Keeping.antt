@@ -8,6 +8,7 @@ use Rattle.std.specs.Prelude.{IsSome}
 use Rattle.slab.specs.Slab as slots
 use Rattle.slab.proofs.SlabLemmas.{Updates-with_value}
 use Rattle.fwd_source.specs.Live.{LiveSource, first_waiting}
+use Rattle.fwd_peers.specs.Leaving.{is_leaving}
 use Rattle.fwd_peers.specs.Peers.{PeerShown, Writes, asks, is_free, stands}
 use Rattle.fwd_reader.specs.declared.peer.Peer.{Peer}
 use Rattle.fwd_reader.specs.declared.peer.Peer.TheVariants as kind
@@ -82,6 +83,16 @@ pub writes_keep : (s t : PeerShown) (goes_on : Bool) → Writes s goes_on t
 writes_keep s t goes_on writes =
     ap (λ p. p.live.waiting) writes.after ∙ ap (λ p. p.live.waiting) writes.sent.rest
 
+-- and so does a visit that writes, or does not where the source was told that no more comes
+pub visit_keeps : (s t : PeerShown) (goes_on : Bool)
+    → (is_leaving s.leave ≡ false → Writes s goes_on t) → (is_leaving s.leave ≡ true → t ≡ s)
+    → t.live.waiting ≡ s.live.waiting
+visit_keeps s t goes_on written leaves = by (is_leaving s.leave) refl
+  where
+    by : (b : Bool) → is_leaving s.leave ≡ b → t.live.waiting ≡ s.live.waiting
+    by false e = writes_keep s t goes_on (written e)
+    by true e = ap (λ (p : PeerShown). p.live.waiting) (leaves e)
+
 -- who has a request that waits and is not sent again does not go
 never_goes : (w l a : Bool) (other : After) → w ≡ true → a ≡ false
     → (if w then (if l then (if a then Goes else Kept) else Waits) else other) ≢ Goes
@@ -111,15 +122,16 @@ some_wait : (count : ℕ) → not (count == 0) ≡ true → nat_lt 0 count ≡ t
 some_wait count some = grind (arith, nat_tests)
 
 pub stays_waiting : (s t : PeerShown) (goes_on waits closing : Bool) (after : After)
-    → Writes s goes_on t → waits ≡ nat_lt 0 (length s.live.waiting)
+    → (is_leaving s.leave ≡ false → Writes s goes_on t) → (is_leaving s.leave ≡ true → t ≡ s)
+    → waits ≡ nat_lt 0 (length s.live.waiting)
     → after ≡ after_of (visited_of false waits closing t) → waits_unasked s ≡ true → after ≢ Goes
-stays_waiting s t goes_on waits closing after writes found becomes unasked goes =
+stays_waiting s t goes_on waits closing after written leaves found becomes unasked goes =
     let parts = both (not (length s.live.waiting == 0)) (not (asks s)) unasked in
     never_goes waits (is_left (visited_of false waits closing t)) (asks t)
     (if not (stands t.stage t.live.unsent) then Goes else
     if (visited_of false waits closing t).may_have_more || is_free t then Again else Rests)
     (found ∙ some_wait (length s.live.waiting) parts.0)
-    (asks_same s t (writes_keep s t goes_on writes) ∙ is_not (asks s) parts.1)
+    (asks_same s t (visit_keeps s t goes_on written leaves) ∙ is_not (asks s) parts.1)
     (sym becomes ∙ goes)
 
 -- where nothing changes all stand
@@ -224,16 +236,6 @@ none_unasked s t same none unasked =
     no_true : false ≡ true → ⊥
     no_true e = cc
 
--- nor has who asks for an acknowledgement
-asks_unasked : (s t : PeerShown) → t.live.waiting ≡ s.live.waiting → asks s ≡ true
-    → waits_unasked t ≡ true → ⊥
-asks_unasked s t same asking unasked =
-    let parts = both (not (length t.live.waiting == 0)) (not (asks t)) unasked in
-    no_true (sym (is_not (asks t) parts.1) ∙ asks_same s t same ∙ asking)
-  where
-    no_true : false ≡ true → ⊥
-    no_true e = cc
-
 -- where none has to wait longer, no source goes of which a request waits that nobody sends again,
 -- but for a refusal
 done_stays : (o p : RouterShown) (s served t : PeerShown) (after : After)
@@ -241,10 +243,7 @@ done_stays : (o p : RouterShown) (s served t : PeerShown) (after : After)
     → waits_unasked t ≡ true → after ≡ Goes → AdmitsAndRefuses o s p served
 done_stays o p s served t after (inl each) same unasked goes =
     absurd (none_unasked served t same each.none unasked)
-done_stays o p s served t after (inr (inl refused)) same unasked goes = refused
-done_stays o p s served t after (inr (inr dropped)) same unasked goes =
-    absurd (asks_unasked s t (same ∙ ap (λ (x : PeerShown). x.live.waiting) dropped.2)
-    dropped.0 unasked)
+done_stays o p s served t after (inr refused) same unasked goes = refused
 
 -- where some have to wait, it does not go at all
 waits_stays : (t : PeerShown) (again closing : Bool) (after : After)
@@ -280,15 +279,16 @@ pub reads_and_serves : (o p : RouterShown) (s read served told t : PeerShown)
     → (0 < length s.live.waiting → read.live.waiting ≡ s.live.waiting)
     → read.live.admitted ≡ s.live.admitted → (waits ≡ true → AdmitsAndWaits o read p served)
     → (waits ≡ false → IsDone o read p served) → told ≡ record served { why = None }
-    → Writes told goes_on t → after ≡ after_of (visited_of again waits closing t)
-    → ReadsAndServes o s after p t
-reads_and_serves o p s read served told t waits again closing goes_on after had none waited done once writes becomes =
+    → (is_leaving told.leave ≡ false → Writes told goes_on t)
+    → (is_leaving told.leave ≡ true → t ≡ told)
+    → after ≡ after_of (visited_of again waits closing t) → ReadsAndServes o s after p t
+reads_and_serves o p s read served told t waits again closing goes_on after had none waited done once written leaves becomes =
     record {
       read = read;
       had = had;
       none = none;
       serves = serves o p read served t waits again closing after waited done
-          (writes_keep told t goes_on writes ∙ ap (λ (x : PeerShown). x.live.waiting) once)
+          (visit_keeps told t goes_on written leaves ∙ ap (λ (x : PeerShown). x.live.waiting) once)
           becomes;
     }
 

@@ -1,26 +1,21 @@
--- What is known of a relay that was asked to stop, and of its sources.
-use Rattle.std.specs.Prelude.{◌≡◌, ℕ, false, ⊤}
-use Rattle.fwd_peers.specs.declared.leave_stage.LeaveStage.{LeaveStage}
-use Rattle.fwd_peers.specs.declared.leave_stage.LeaveStage.TheVariants.{Stays, Reads, Settles, Leaves}
-use Rattle.fwd_turns.specs.declared.draining.Ahead.{Ahead}
-use Rattle.fwd_turns.specs.declared.draining.Ahead.TheVariants as ahead
+-- What is known of a relay that was asked to stop.
+use Rattle.std.specs.Prelude.{◌≡◌, ◌≤◌, ℕ, Option, Some, None, false}
 use Rattle.fwd_turns.specs.declared.draining.DrainSeen.{DrainSeen}
-
--- how many bytes a source is read at most from now on, that has come so far
-abbrev pub left_of : LeaveStage → ℕ
-left_of Stays = 0
-left_of (Reads left) = left
-left_of Settles = 0
-left_of (Leaves since left taken) = left
 
 -- nothing is left to be done: no source can connect, none is connected, and no output holds an
 -- entry
-abbrev pub IsDrained : DrainSeen → Type 0
-IsDrained seen = (seen.is_listening ≡ false) × (seen.sources ≡ 0) × (seen.held ≡ 0)
+abbrev pub IsDone : DrainSeen → Type 0
+IsDone seen = (seen.is_listening ≡ false) × (seen.sources ≡ 0) × (seen.held ≡ 0)
 
--- where there are bytes up to one, something holds of that
-abbrev pub IfMore : Ahead → (ℕ → Type 0) → Type 0
-IfMore ahead.Nothing p = ⊤
-IfMore ahead.Many p = ⊤
-IfMore ahead.Taken p = ⊤
-IfMore (ahead.More end) p = p end
+-- every source was read to its end: none can connect, none is connected, and none was cut off
+abbrev pub IsReadOut : DrainSeen → Type 0
+IsReadOut seen = (seen.is_listening ≡ false) × (seen.sources ≡ 0) × (seen.cut ≡ 0)
+
+-- nothing is left to be done, and every source was read to its end
+abbrev pub IsDrained : DrainSeen → Type 0
+IsDrained seen = IsDone seen × (seen.cut ≡ 0)
+
+-- a time is over at a moment, if there is one that ends
+abbrev pub IsPast : (deadline : Option ℕ) → (now : ℕ) → Type 0
+IsPast None now = ⊥
+IsPast (Some deadline) now = deadline ≤ now

@@ -60,12 +60,9 @@ IsNoted Goes c key = ⊤
 -- ---- a visit that reads
 
 -- How the requests that wait at a source are served, where none has to wait longer: they are
--- admitted, each of them, or up to the first that is refused. Or the source was told that no more
--- comes, and sends the first of them again: none is admitted.
+-- admitted, each of them, or up to the first that is refused.
 abbrev pub IsDone : RouterShown → PeerShown → RouterShown → PeerShown → Type 0
-IsDone o s p t =
-    AdmitsEach o s p t
-    ⊎ (AdmitsAndRefuses o s p t ⊎ ((asks s ≡ true) × (p ≡ o) × (t ≡ s)))
+IsDone o s p t = AdmitsEach o s p t ⊎ AdmitsAndRefuses o s p t
 
 -- the same, or some of them have to wait longer
 abbrev pub IsServed : RouterShown → PeerShown → RouterShown → PeerShown → Type 0

@@ -21,12 +21,20 @@ use fwd_source::Source;
 use mio::{Poll, Registry, Token};
 use rand_chacha::ChaCha20Rng;
 use std::alloc::{AllocError, Global};
+use std::fs::File;
 use std::net::{Net, SocketAddr};
 use std::rt::Files;
 use std::sync::{Arc, Wait};
 
 /// The most connections that are taken in a turn at one listener.
 const ACCEPTS: u16 = 1_024;
+
+/// The same of a relay that was asked to stop, so that it looks at the time often.
+const LAST_ACCEPTS: u16 = 128;
+
+/// As many connections as wait at a listener at the most, which Linux takes at once: its limit,
+/// unless it is set otherwise, and one more.
+const QUEUE: u64 = 4_097;
 
 /// The most monitors at a time.
 pub const MONITORS: usize = 16;
@@ -86,6 +94,8 @@ pub(crate) struct Acceptor {
     pub none_idle: Option<u64>,
     /// How many files the process may have open, where that leaves fewer sources than are set.
     pub few_files: Option<u64>,
+    /// How many sources it may take still, where the relay was asked to stop.
+    last: Option<u64>,
 }
 
 // A drop of its own is proved once, and not at each place where an acceptor goes.
@@ -99,6 +109,7 @@ impl Drop for Acceptor {
             has_other_outputs: _,
             none_idle: _,
             few_files: _,
+            last: _,
         } = self;
     }
 }
@@ -204,7 +215,7 @@ impl<J: Run> SourceSetup<J> {
 
 impl Acceptor {
     /// The listeners, which the reader in front waits for by this poll. It fails with `Listen`.
-    pub fn open<R: Net + Files>(
+    pub fn open<R: Net + Files<File = File>>(
         rt: &R,
         poll: &Poll,
         config: ListenConfig,
@@ -225,7 +236,30 @@ impl Acceptor {
             has_other_outputs: config.has_other_outputs,
             none_idle: None,
             few_files: config.few_files,
+            last: None,
         })
+    }
+
+    /// The relay was asked to stop: no more sources are taken from now on than may have waited then.
+    /// It looks whether some wait.
+    pub fn take_last(&mut self) {
+        self.last = self.last.or(Some(QUEUE));
+        self.sources.notified();
+    }
+
+    /// The most sources that are taken in a turn.
+    fn most_accepts(&self) -> u16 {
+        if self.last.is_some() {
+            LAST_ACCEPTS
+        } else {
+            ACCEPTS
+        }
+    }
+
+    /// Whether all are taken that waited when the relay was asked to stop: none waits, or as many
+    /// were taken.
+    pub fn has_last(&self) -> bool {
+        self.sources.is_quiet() || self.last == Some(0)
     }
 
     /// One of the listeners told that connections wait.
@@ -272,7 +306,10 @@ impl Acceptor {
     ) -> bool
         ensures { IsNoLess setup.old.ids.next setup.new.ids.next }
     {
-        for _ in 0..ACCEPTS {
+        for _ in 0..self.most_accepts() {
+            if self.last == Some(0) {
+                return false;
+            }
             let (socket, peer) = match self.sources.next() {
                 Arrival::Came(socket, peer) => (socket, peer),
                 Arrival::Starved => {
@@ -281,6 +318,7 @@ impl Acceptor {
                 }
                 Arrival::None => return false,
             };
+            self.last = self.last.map(|left| left.saturating_sub(1));
             let is_full = incoming.inboxes.sources() >= self.limit;
             if is_full && !self.free_place(rt, incoming, observer) {
                 let listener = ListenerKind::Source;

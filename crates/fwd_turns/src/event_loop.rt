@@ -5,7 +5,7 @@ ghost use Rattle.fwd_reader.specs.OpenConnections.{connection_at, without};
 ghost use Rattle.fwd_turns.specs.Keeping.{IsNoted, KeepsServed, KeepsWaiting};
 
 use crate::acceptor::{Acceptor, Incoming, ListenConfig, SourceSetup};
-use crate::loop_memory::LoopMemory;
+use crate::leaving;
 use crate::lost_servers::{LostServers, fact_of};
 use crate::places::{PlaceRule, free_place, part, tell_closed};
 use crate::visiting::{After, note, write_at};
@@ -14,12 +14,14 @@ use fwd_environment::WorkerEvent;
 use fwd_history::Run;
 use fwd_links::{Mailbox, Notices, RunClock, SharedFlags};
 use fwd_listeners::tokens::{CONTROL, MONITORS, SOURCES, WAKER};
-use fwd_listeners::{Control, ControlAnswer};
+use fwd_listeners::{Control, ControlAnswer, SocketFile};
 use fwd_monitors::{Figures, JournalEvent, MemoryFor, Observer, StartFault};
+use fwd_output::UnsentRequests;
 use fwd_peers::{CloseReason, SocketPath, SourcePeer};
 use fwd_reader::{Connections, Output, PageParts, Peer, ReaderInboxes, Router};
 use mio::{Events, Poll, Token, Waker};
 use std::alloc::Global;
+use std::fs::File;
 use std::net::Net;
 use std::rt::{Clock, Files};
 use std::sync::Wait;
@@ -38,6 +40,10 @@ const READING: u64 = 4;
 
 /// The longest wait while sources that are ready are not read, in milliseconds.
 const PAUSE: u64 = 5;
+
+/// The longest wait of a turn of a relay that was asked to stop, in milliseconds: so streams are
+/// looked at often enough to find that they are quiet.
+const DRAINING: u64 = 20;
 
 /// How often a loop that was at work in its last turn looks for more before it sleeps: some ten
 /// microseconds. One that found nothing in its last turn sleeps at once, so that an idle relay does
@@ -129,7 +135,7 @@ impl<J: Run> EventLoop<J> {
         limits: ReaderLimits,
     ) -> Result<(EventLoop<J>, Mailbox), StartFault> {
         let events = Events::with_capacity(alloc, EVENTS)?;
-        let visitor = Visitor::new(alloc, LoopMemory::new(flags.share()?))?;
+        let visitor = Visitor::new(alloc, flags)?;
         let poll = Poll::new(rt).map_err(|_| StartFault::Poll)?;
         let mailbox = mailbox_of(alloc, &poll, flags)?;
         let event_loop = EventLoop {
@@ -147,7 +153,7 @@ impl<J: Run> EventLoop<J> {
     }
 
     /// It has the listeners from now on. It fails with `Listen`.
-    pub fn listen<R: Net + Files>(
+    pub fn listen<R: Net + Files<File = File>>(
         &mut self,
         rt: &R,
         config: ListenConfig,
@@ -157,7 +163,7 @@ impl<J: Run> EventLoop<J> {
     }
 
     /// It has the control socket of this path from now on. It fails with `Control`.
-    pub fn listen_control<R: Net + Files>(
+    pub fn listen_control<R: Net + Files<File = File>>(
         &mut self,
         rt: &R,
         path: SocketPath,
@@ -166,9 +172,14 @@ impl<J: Run> EventLoop<J> {
         Ok(())
     }
 
-    /// The path of the file where sources connect, if they do so by a Unix socket.
-    pub fn source_path(&self) -> Option<SocketPath> {
-        self.acceptor.as_ref()?.sources.path()
+    /// The file where sources connect, if they do so by a Unix socket.
+    pub fn source_file(&self) -> Option<SocketFile> {
+        self.acceptor.as_ref()?.sources.file()
+    }
+
+    /// The relay ends, and none of its requests that wait is admitted any more. What those had.
+    pub fn give_up(&mut self) -> UnsentRequests {
+        leaving::give_up(&mut self.connections)
     }
 
     /// The control socket, which it does not have from now on.
@@ -208,7 +219,7 @@ impl<J: Run> EventLoop<J> {
     }
 
     /// The same for a relay that was asked to stop: it takes all that wait, closes the listener of
-    /// sources once none does, and says whether it is closed.
+    /// sources once none does that waited then, and says whether it is closed.
     pub(crate) fn accept_last<R: Wait, W: Observer>(
         &mut self,
         rt: &R,
@@ -218,14 +229,14 @@ impl<J: Run> EventLoop<J> {
         now: u64,
     ) -> bool {
         match &mut self.acceptor {
-            Some(acceptor) if acceptor.sources.is_open() => acceptor.sources.notified(),
+            Some(acceptor) if acceptor.sources.is_open() => acceptor.take_last(),
             _ => return true,
         }
         self.accept(rt, router, arrivals, observer, now);
         let Some(acceptor) = &mut self.acceptor else {
             return true;
         };
-        if acceptor.sources.is_quiet() {
+        if acceptor.has_last() {
             acceptor.sources.close();
         }
         !acceptor.sources.is_open()
@@ -362,6 +373,8 @@ impl<J: Run> EventLoop<J> {
             router.patience(now, PAUSE)
         } else if is_left || self.is_urgent() {
             0
+        } else if mailbox.flags().is_draining() {
+            router.patience(now, DRAINING)
         } else {
             router.patience(now, LONGEST)
         };

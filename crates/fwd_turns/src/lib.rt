@@ -10,6 +10,7 @@ mod draining;
 mod event_loop;
 mod event_queue;
 mod front_reader;
+mod leaving;
 mod loop_memory;
 mod lost_servers;
 mod places;
@@ -19,6 +20,7 @@ mod visiting;
 mod visitor;
 
 pub use acceptor::{ListenConfig, MONITORS, SourceSetup};
+pub use draining::DrainSeen;
 pub use event_loop::{EventLoop, ReaderLimits};
 pub use event_queue::EventQueue;
 pub use front_reader::{FrontReader, PageMaker};

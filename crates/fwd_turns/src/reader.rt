@@ -6,8 +6,8 @@ ghost use Rattle.std.specs.Prelude.{◌≡◌, Some};
 ghost use Rattle.fwd_run.specs.Runs.{routes_at};
 
 use crate::acceptor::SourceSetup;
-use crate::draining;
 use crate::event_loop::{Arrivals, EventLoop, ReadContext};
+use crate::leaving;
 use fwd_history::Run;
 use fwd_links::{Mailbox, Notices, RunClock, unix_seconds};
 use fwd_match::Routes;
@@ -227,7 +227,7 @@ impl<'a, J: Run, R: Wait + Clock> Reader<'a, J, R> {
     /// Visits each source where the relay was asked to stop, at a moment (milliseconds).
     pub fn sweep(&mut self, now: u64) {
         if self.is_draining() {
-            draining::sweep(&mut self.event_loop.connections, now);
+            leaving::sweep(&mut self.event_loop.connections, now);
         }
     }
 

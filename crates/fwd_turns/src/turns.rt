@@ -6,6 +6,7 @@ ghost use Rattle.std.specs.Prelude.{IfOk};
 ghost use Rattle.fwd_reader.specs.Ends.{AddUp};
 
 use crate::acceptor::SourceSetup;
+use crate::draining::DrainSeen;
 use crate::event_queue::{EventQueue, QueueObserver};
 use crate::front_reader::{FrontReader, PageMaker};
 use crate::reader::{Pages, Reader, ReaderParts, Surroundings};
@@ -231,7 +232,7 @@ impl<'a, J: Run, R: Wait + Clock> FrontTurns<'a, J, R> {
         self.turns.reader.tell(observer);
         for _ in 0..turns {
             self.turn_watched(rt, observer)?;
-            if self.turns.reader.is_stopped() || self.is_drained() {
+            if self.turns.reader.is_stopped() || self.last_seen().is_some() {
                 break;
             }
         }
@@ -251,13 +252,10 @@ impl<'a, J: Run, R: Wait + Clock> FrontTurns<'a, J, R> {
         }
     }
 
-    /// Whether the relay was asked to stop, and has nothing left to do, or no time, as the reader
-    /// in front knows.
-    pub fn is_drained(&self) -> bool {
-        self.turns
-            .front
-            .as_ref()
-            .is_some_and(|it| it.drain.is_over())
+    /// What the reader in front saw of a relay that was asked to stop when it had nothing left to do,
+    /// or no time.
+    pub fn last_seen(&self) -> Option<DrainSeen> {
+        self.turns.front.as_ref()?.drain.last()
     }
 
     /// What each output has to do with at this moment, in all and of each tag, in the settings'

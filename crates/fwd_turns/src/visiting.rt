@@ -1,6 +1,7 @@
 //! A visit to a connection, and what becomes of the connection behind it.
 
 ghost use Rattle.std.specs.Prelude.{◌≡◌, ◌≢◌, ◌<◌, ◌⊎◌, [], None, length, true, false};
+ghost use Rattle.fwd_peers.specs.Leaving.{is_leaving};
 ghost use Rattle.fwd_peers.specs.Peers.{PeerShown, Writes, stands};
 ghost use Rattle.fwd_peers.specs.declared.peer_state.PeerState.TheVariants.{Open};
 ghost use Rattle.fwd_peers.specs.declared.limits.TheConstants.{UNSENT};
@@ -105,8 +106,9 @@ impl Visited {
     }
 }
 
-/// Writes what waits to be sent to a source, and says what becomes of it: there may be more to be
-/// read, some of its requests wait longer, and the system told that it closed.
+/// Writes what waits to be sent to a source, unless it was told that no more comes, and says what
+/// becomes of it: there may be more to be read, some of its requests wait longer, and the system told
+/// that it closed.
 pub(crate) fn after_visit<J: Run>(
     source: &mut SourcePeer<J>,
     may_have_more: bool,
@@ -114,10 +116,15 @@ pub(crate) fn after_visit<J: Run>(
     is_closing: bool,
 ) -> After
     ensures becomes { result ≡ after_of (visited_of may_have_more waits is_closing source.new) }
-    ensures written { Writes source.old
+    ensures written { is_leaving source.old.leave ≡ false → Writes source.old
         (stands source.new.stage source.new.live.unsent) source.new }
+    ensures leaves { is_leaving source.old.leave ≡ true → source.new ≡ source.old }
 {
-    let stands = source.write();
+    let stands = if source.leave_stage().is_leaving() {
+        source.stands()
+    } else {
+        source.write()
+    };
     let visited = Visited {
         may_have_more,
         waits,
@@ -168,7 +175,7 @@ fn write_peer<J: Run, W: Observer>(
 }
 
 /// The same of a source.
-#[tactic(auto, using(crate::proofs::Keeping::writes_keep, crate::proofs::Keeping::stays_waiting))]
+#[tactic(auto, using(crate::proofs::Keeping::visit_keeps, crate::proofs::Keeping::stays_waiting))]
 fn write_source<J: Run>(source: &mut SourcePeer<J>, is_closing: bool) -> After
     ensures waiting { source.new.live.waiting ≡ source.old.live.waiting }
     ensures keeps { waits_unasked source.old ≡ true → result ≢ After.Goes }
@@ -220,7 +227,8 @@ pub(crate) fn serve_monitor<J: Run, R: Wait>(
     monitor: &mut MonitorPeer,
     room: &mut [u8],
 ) -> Result<After, AllocError> {
-    let served = monitor.serve(alloc, room, context.now)?;
+    let is_draining = context.figures.is_draining;
+    let served = monitor.serve(alloc, room, is_draining, context.now)?;
     if !context.are_pages_ordered {
         if let Some(kind) = monitor.wants() {
             let made_of = (kind, context.figures);

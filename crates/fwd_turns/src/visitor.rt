@@ -1,20 +1,21 @@
 //! A visit that reads a connection.
 
-ghost use Rattle.std.specs.Prelude.{◌≡◌, ◌≢◌, true, false};
+ghost use Rattle.std.specs.Prelude.{◌≡◌};
 ghost use Rattle.fwd_peers.specs.Peers.{PeerShown};
-ghost use Rattle.fwd_reader.specs.Admissions.{AdmitsAndWaits};
 ghost use Rattle.fwd_reader.specs.OpenConnections.{connection_at};
 ghost use Rattle.fwd_reader.specs.declared.peer.Peer.TheVariants.{Source};
-ghost use Rattle.fwd_turns.specs.Keeping.{IsDone, IsReadAt, IsReadFrom, IsReadTo, ReadsAndServes};
+ghost use Rattle.fwd_turns.specs.Keeping.{IsReadAt, IsReadFrom, IsReadTo, ReadsAndServes};
 
-use crate::draining::{held_in, is_dropped, read_leaving};
+use crate::draining::held_in;
 use crate::event_loop::ReadContext;
+use crate::leaving::read_leaving;
 use crate::loop_memory::LoopMemory;
 use crate::visiting::{After, after_visit, serve_monitor, tell_end};
 use fwd_history::Run;
+use fwd_links::SharedFlags;
 use fwd_monitors::{JournalEvent, MemoryFor, MonitorPeer, Observer};
 use fwd_peers::SourcePeer;
-use fwd_reader::{Connections, Peer, Ready, Router};
+use fwd_reader::{Connections, Peer, Ready};
 use std::alloc::{AllocError, Global};
 use std::sync::Wait;
 
@@ -29,16 +30,19 @@ pub(crate) struct Visitor {
     room: Vec<u8>,
     /// What is known of memory.
     pub memory: LoopMemory,
+    /// Where it is told that a source is closed before it was read to its end.
+    flags: SharedFlags,
 }
 
 impl Visitor {
     /// One that has read nothing. The only error is out of memory.
-    pub fn new(alloc: Global, memory: LoopMemory) -> Result<Visitor, AllocError> {
+    pub fn new(alloc: Global, flags: &SharedFlags) -> Result<Visitor, AllocError> {
         let room = vec![in alloc; 0; PIECE]?;
         Ok(Visitor {
             alloc,
             room,
-            memory,
+            memory: LoopMemory::new(flags.share()?),
+            flags: flags.share()?,
         })
     }
 
@@ -131,30 +135,24 @@ impl Visitor {
             context.new.router.now source.new }
     {
         let now = context.now;
+        let was_cut = source.leave_stage().is_cut();
         let again = read_leaving(source, self.alloc, &mut self.room, to_end, now);
-        let waits = admit_waiting(rt, context.router, source, now);
-        if tell_end(source, observer) {
+        let waits = context.router.admit_all(rt, source, now);
+        let is_cut = !was_cut && source.leave_stage().is_cut();
+        let is_starved = tell_end(source, observer);
+        if is_starved {
             let held = held_in(rt, context.parts.outputs);
             self.memory.refuse(now, held == 0);
         }
+        self.note_cut(is_cut || is_starved);
         after_visit(source, again, waits, to_end)
     }
-}
 
-/// Has what waits at a source admitted at a moment (milliseconds), as far as may be, and says
-/// whether some of it has to wait longer. What is dropped is not admitted.
-fn admit_waiting<J: Run, R: Wait>(
-    rt: &R,
-    router: &mut Router<'_, J>,
-    source: &mut SourcePeer<J>,
-    now: u64,
-) -> bool
-    ensures waits { result ≡ true
-        → AdmitsAndWaits router.old source.old router.new source.new }
-    ensures done { result ≡ false → IsDone router.old source.old router.new source.new }
-{
-    if is_dropped(source) {
-        return false;
+    /// A source was closed before it was read to its end, or not: it is counted where the relay was
+    /// asked to stop.
+    fn note_cut(&self, is_cut: bool) {
+        if is_cut && self.flags.is_draining() {
+            self.flags.cut();
+        }
     }
-    router.admit_all(rt, source, now)
 }

@@ -4,6 +4,7 @@ use anyhow::Result;
 use fwd_loop::Platform;
 use fwd_program::{Invocation, Log, Progress, run_all};
 use std::alloc::Global;
+use std::fs::File;
 use std::io::{ErrorKind, Write};
 use std::net::{Ipv4Addr, Net, SocketAddr, TcpListener, TcpStream};
 use std::rt::{Clock, Files};
@@ -141,7 +142,7 @@ impl Call {
     }
 
     /// Calls the whole program, and says its exit status, what it wrote, and what it told.
-    fn say<R: Platform + Files + Print>(self, rt: &R) -> Result<()> {
+    fn say<R: Platform + Files<File = File> + Print>(self, rt: &R) -> Result<()> {
         let alloc = rt.alloc();
         let mut output = Pipe::new(alloc, self.manner);
         let mut errors = Vec::new(alloc);
@@ -183,7 +184,7 @@ fn write_good<R: Net<Listener = TcpListener, Stream = TcpStream> + Files + Alloc
 }
 
 /// Writes the good settings, and makes the calls.
-fn try_ends<R: Platform + Files + Print>(rt: &R) -> Result<()> {
+fn try_ends<R: Platform + Files<File = File> + Print>(rt: &R) -> Result<()> {
     write_good(rt)?;
     for call in &CALLS {
         call.say(rt)?;
@@ -197,7 +198,7 @@ pub fn say_ends<
         + Threads
         + Wait
         + Clock
-        + Files
+        + Files<File = File>
         + Print
         + AllocGlobal
         + Sync,

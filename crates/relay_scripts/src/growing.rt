@@ -346,7 +346,7 @@ fn tell_page<R: Print + AllocGlobal>(rt: &R, reports: &[Report]) -> Result<(), A
 
 /// The answer to a head that asks for it: whether it ends so, too.
 fn tell_reply<R: Print + AllocGlobal>(rt: &R, reports: &[Report]) -> Result<(), AllocError> {
-    if let Reply::Bytes(bytes) = answer(rt.alloc(), b"GET / HTTP/1.1\r\n\r\n", reports)? {
+    if let Reply::Bytes(bytes) = answer(rt.alloc(), b"GET / HTTP/1.1\r\n\r\n", reports, false)? {
         let is_page = bytes.as_slice().ends_with(TAG_LINE.as_bytes());
         tell(rt, "monitor answer", &is_page);
     }

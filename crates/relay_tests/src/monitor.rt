@@ -41,6 +41,12 @@ const BAD_REQUEST: &str =
 /// What is told where no answer is due yet.
 const MORE: &str = "";
 
+const READY: &str = "HTTP/1.1 200 OK\r\nContent-Type: text/plain\r\nContent-Length: 6\r\n\
+    Connection: close\r\n\r\nready\n";
+
+const DRAINING: &str = "HTTP/1.1 503 Service Unavailable\r\nContent-Type: text/plain\r\n\
+    Content-Length: 9\r\nConnection: close\r\n\r\ndraining\n";
+
 const ASKED: &[u8] = b"GET / HTTP/1.1\r\nHost: a\r\n\r\n";
 
 /// What an output holds of tags: of each its bytes, how many entries, and how many bytes of them.
@@ -66,14 +72,27 @@ fn second(alloc: Global) -> Result<Report, AllocError> {
     report(alloc, SECOND, &[(b"", 4, 50), (b"a\xff", 6, 70)])
 }
 
-/// Whether these bytes are told this text.
-fn is_told(alloc: Global, head: &[u8], text: &str) -> Result<bool, AllocError> {
+/// Whether these bytes are told this text, where the relay drains or not.
+fn is_told_where(
+    alloc: Global,
+    head: &[u8],
+    is_draining: bool,
+    text: &str,
+) -> Result<bool, AllocError> {
     let reports = [first(alloc)?, second(alloc)?];
-    let is_told = match answer(alloc, head, &reports)? {
+    Ok(match answer(alloc, head, &reports, is_draining)? {
         Reply::More => text == MORE,
         Reply::Bytes(bytes) => bytes.as_slice() == text.as_bytes(),
-    };
-    Ok(is_told && wants_page(head) == (text == PAGE))
+    })
+}
+
+/// Whether these bytes are told this text. A load balancer is told another one where the relay
+/// drains; any other head is told the same then.
+fn is_told(alloc: Global, head: &[u8], text: &str) -> Result<bool, AllocError> {
+    let draining = if text == READY { DRAINING } else { text };
+    let is_told = is_told_where(alloc, head, false, text)?;
+    let is_told_later = is_told_where(alloc, head, true, draining)?;
+    Ok(is_told && is_told_later && wants_page(head) == (text == PAGE))
 }
 
 /// Whether the page of the first output is its text.
@@ -91,6 +110,14 @@ const HEADS: &[(&[u8], &str)] = &[
     (ASKED, PAGE),
     (b"GET / HTTP/1.0\n\n", PAGE),
     (b"GET / HTTP/1.1\r\n\r\nGET /", PAGE),
+    (b"GET /ready HTTP/1.1\r\nHost: a\r\n\r\n", READY),
+    (b"GET /ready HTTP/1.0\n\n", READY),
+    (b"HEAD /ready HTTP/1.1\r\n\r\n", NOT_FOUND),
+    (b"POST /ready HTTP/1.1\r\n\r\n", NOT_FOUND),
+    (b"GET /ready/ HTTP/1.1\r\n\r\n", NOT_FOUND),
+    (b"GET /ready? HTTP/1.1\r\n\r\n", NOT_FOUND),
+    (b"GET /readiness HTTP/1.1\r\n\r\n", NOT_FOUND),
+    (b"GET ready HTTP/1.1\r\n\r\n", NOT_FOUND),
     (b"GET /metrics HTTP/1.1\r\n\r\n", NOT_FOUND),
     (b"GET /? HTTP/1.1\r\n\r\n", NOT_FOUND),
     (b"HEAD / HTTP/1.1\r\n\r\n", NOT_FOUND),

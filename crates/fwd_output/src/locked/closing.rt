@@ -39,6 +39,7 @@ impl<L: Ledger + Run, M: Ledger + Run> Locked<Ledgered<L>, Ledgered<M>> {
             claimed: _,
             begun: _,
             lost_at: _,
+            unasked: _,
             order: _,
         } = self;
         state.is_sound(); // for the proof

@@ -2,7 +2,8 @@ use Rattle.fwd_monitor.proofs.ReplyLemmas.{begins-good, begun-few, due-one, must
 use Rattle.fwd_monitor.proofs.laws.one_reply.Goals as goal
 
 pub returns-clause-one : goal.returns-clause-one
-returns-clause-one c heard reports text other due x = due-one heard reports text other due x
+returns-clause-one c heard is_draining reports text other due x =
+    due-one heard is_draining reports text other due x
 
 pub returns-clause-apart : goal.returns-clause-apart
 returns-clause-apart c heard h x bad = begins-good heard h x bad

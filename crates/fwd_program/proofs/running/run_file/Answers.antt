@@ -9,4 +9,4 @@ returns-in-Ran g c =
 pub returns-in-Left : goal.returns-in-Left
 returns-in-Left g c =
     let ran = c.in-Left.ensures in
-    (ran.0, left_runs c.flush-in-Left.result c.in-Left.entries c.left_flushed.result ran.0 _ _ _ c.left_flushed.ensures ran.1 c.flush-in-Left.ensures)
+    (ran.0, left_runs c.flush-in-Left.result c.in-Left.left c.left_flushed.result ran.0 _ _ _ c.left_flushed.ensures ran.1 c.flush-in-Left.ensures)
