@@ -9,7 +9,7 @@ use crate::memory::Open;
 use crate::output_plan::output;
 use crate::paging::begin;
 use crate::test_source::{Sources, TestSource};
-use crate::turns::{abandon_all, works};
+use crate::turns::{abandon_all, works, works_until};
 use anyhow::Result;
 use fwd_book::Receipt;
 use fwd_history::Run;
@@ -20,6 +20,7 @@ use fwd_workers::PlacedWorker;
 use std::alloc::Global;
 use std::marker::Brand;
 use std::sync::Wait;
+use std::sync::atomic::{AtomicU64, Ordering};
 use std::sync::ledger::{Blank, Ledger};
 use std::thread::Threads;
 use std::{mem, thread};
@@ -232,6 +233,8 @@ fn readers_by<
     let shared = begun.shared(accepted, settled);
     let out = &shared;
     let working = &mut worker;
+    let admitted = AtomicU64::new(0);
+    let seen = &admitted;
     let (read, work_seat) = thread::join(
         rt,
         move || -> Pairs<Reading<L>>
@@ -241,12 +244,14 @@ fn readers_by<
                 × (result.1.0.0.parts ≡ 1) × (result.1.1.0.parts ≡ 1) }
         {
             let others = ((third, three), (fourth, four));
-            read_four(rt, alloc, out, (((first, one), (second, two)), others))
+            let read = read_four(rt, alloc, out, (((first, one), (second, two)), others));
+            seen.store(1, Ordering::SeqCst);
+            read
         },
         move || -> Seat<M>
             requires { work_seat.parts ≡ 1 }
             ensures { result.parts ≡ 1 }
-        { work_off(rt, alloc, out, work_seat, working) },
+        { works_until(rt, (alloc, out), work_seat, working, seen) },
     );
     let work_seat = work_off(rt, alloc, out, work_seat, &mut worker);
     let (((first, one), (second, two)), ((third, three), (fourth, four))) = read;

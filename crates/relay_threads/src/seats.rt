@@ -5,18 +5,17 @@ ghost use Rattle.std.specs.Prelude.{◌≡◌, ◌+◌, ◌<◌, IfOk, vec_len};
 ghost use Rattle.fwd_run.specs.Pages.{page_count};
 
 use crate::idle_worker::IdleWorker;
-use crate::memory::{Open, Still, Wires};
+use crate::memory::Open;
 use crate::output_plan::output;
 use crate::paging::begin;
 use crate::test_source::TestSource;
 use crate::thread_share::Hand;
-use crate::turns::{abandon_all, admits, works};
+use crate::turns::{abandon_all, admits, works, works_until};
 use anyhow::{Result, bail};
 use fwd_history::Run;
 use fwd_model::FlushKind;
 use fwd_output::{Closing, Ledgered, Seat, SharedOutput, Tally, open};
 use fwd_run::OpenedRun;
-use fwd_workers::{Gate, Pass, Place};
 use std::alloc::{AllocError, Global};
 use std::marker::Brand;
 use std::sync::Wait;
@@ -73,21 +72,6 @@ fn admit_hand<L: Ledger + Run, M: Ledger + Run, R: Wait>(
     Hand { tool: (), seat }
 }
 
-/// Stops a worker that has no chunk, once all is admitted.
-#[derive(Drop)]
-struct Until<'a> {
-    admitted: &'a AtomicU64,
-}
-
-impl Gate for Until<'_> {
-    fn pass<R: Wait>(&mut self, _rt: &R, _worker: u16, place: Place, _turn: u64) -> Pass {
-        match place {
-            Place::BeforeTake if self.admitted.load(Ordering::SeqCst) == 1 => Pass::Stop,
-            _ => Pass::Go,
-        }
-    }
-}
-
 /// A worker sends with its seat until all is admitted.
 fn work_hand<L: Ledger + Run, M: Ledger + Run, R: Wait>(
     rt: &R,
@@ -98,9 +82,7 @@ fn work_hand<L: Ledger + Run, M: Ledger + Run, R: Wait>(
 ) -> Hand<M, ()> {
     let Hand { tool, seat } = hand;
     let mut worker = tool.placed(alloc);
-    let mut gate = Until { admitted };
-    let mut hub = Wires(alloc);
-    let (seat, _) = worker.run(rt, out, seat, &mut hub, &mut gate, &mut Still, u64::MAX);
+    let seat = works_until(rt, (alloc, out), seat, &mut worker, admitted);
     Hand { tool: (), seat }
 }
 

@@ -6,9 +6,10 @@ use crate::batches::MESSAGE;
 use crate::memory::{Still, Wires};
 use crate::test_source::TestSource;
 use fwd_output::{SharedOutput, Tally, Ticket};
-use fwd_workers::{Gate, PlacedWorker};
+use fwd_workers::{Gate, Pass, Place, PlacedWorker};
 use std::alloc::Global;
 use std::sync::Wait;
+use std::sync::atomic::{AtomicU64, Ordering};
 
 /// Tickets that are no more wanted: their requests are abandoned.
 pub fn abandon_all<A: Tally, S: Tally, R: Wait>(
@@ -64,6 +65,38 @@ pub fn works<A: Tally, S: Tally, G: Gate, R: Wait>(
     let mut hub = Wires(alloc);
     let (seat, ended) = worker.run(rt, out, seat, &mut hub, gate, &mut Still, 10_000);
     (seat, ended.is_stopped())
+}
+
+/// Stops a worker that has no chunk, once all is admitted.
+#[derive(Drop)]
+struct Until<'a> {
+    admitted: &'a AtomicU64,
+}
+
+impl Gate for Until<'_> {
+    fn pass<R: Wait>(&mut self, _rt: &R, _worker: u16, place: Place, _turn: u64) -> Pass {
+        match place {
+            Place::BeforeTake if self.admitted.load(Ordering::SeqCst) == 1 => Pass::Stop,
+            _ => Pass::Go,
+        }
+    }
+}
+
+/// A worker sends until all is admitted, and has no chunk at the end.
+pub fn works_until<A: Tally, S: Tally, R: Wait>(
+    rt: &R,
+    at: (Global, &SharedOutput<A, S>),
+    seat: S::Seat,
+    worker: &mut PlacedWorker<A::Run>,
+    admitted: &AtomicU64,
+) -> S::Seat
+    ensures { S.parts result ≡ S.parts seat }
+{
+    let (alloc, out) = at;
+    let mut gate = Until { admitted };
+    let mut hub = Wires(alloc);
+    let (seat, _) = worker.run(rt, out, seat, &mut hub, &mut gate, &mut Still, u64::MAX);
+    seat
 }
 
 /// How many of the tickets have receipts now, and how many are left, which are abandoned.
