@@ -7,8 +7,8 @@ use Rattle.fwd_output.specs.Paged.{IsReportAfter}
 use Rattle.fwd_run.specs.Entered.{HasEntered}
 use Rattle.fwd_run.specs.Runs.{RunEvent, config_of, relay_events}
 
--- each request that entered an output by a history of the run is delivered by it, whether its source
--- asked for an acknowledgement or not
+-- each request that entered an output by a history of the run is delivered by it, whether its
+-- source asked for an acknowledgement or not
 abbrev pub HasDelivered : List RunEvent → (output : ℕ) → Type 0
 HasDelivered past output =
     (config : Config) (id r : ℕ) → config_of past ≡ Some config

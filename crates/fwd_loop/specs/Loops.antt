@@ -20,9 +20,9 @@ relay_by s = record {
   routes = map (λ o. o.pattern) s.outputs;
 }
 
--- What the relay is set to is what the settings say, but for the bytes that its chunks have: the key
--- and the users by which a source has to log in, the hostname that the relay answers by, how long and
--- how deep a source's values may be, where requests go, and what each output is.
+-- What the relay is set to is what the settings say, but for the bytes that its chunks have: the
+-- key and the users by which a source has to log in, the hostname that the relay answers by, how
+-- long and how deep a source's values may be, where requests go, and what each output is.
 pub record IsSetTo (s : Settings) (config : Config) : Type 0 where
   pub hostname : config.security.hostname ≡ s.relay.hostname
   pub shared_key : config.security.shared_key ≡ s.relay.shared_key

@@ -53,8 +53,8 @@ fn have_delivered<J: Run>(reached: &ReachedHistory<J>, reports: &[Report])
     empty_output_has_delivered(); // for the proof
 }
 
-/// What is left beside what outputs hold: the requests that no output admitted, and the sources that
-/// were not read to their end.
+/// What is left beside what outputs hold: the requests that no output admitted, and the sources
+/// that were not read to their end.
 fn left_of(seen: Option<DrainSeen>, unsent: UnsentRequests) -> Left
     ensures read_out { is_nothing result ≡ true → IfSome seen IsReadOut }
 {
@@ -66,9 +66,9 @@ fn left_of(seen: Option<DrainSeen>, unsent: UnsentRequests) -> Left
 }
 
 impl<J: Run> Outcome<J> {
-    /// What a run over these outputs came to, of which this was seen in the end where it was asked to
-    /// stop, which did not admit some requests, and which had reached a history before. Nobody shares
-    /// the outputs any more. The only error is out of memory.
+    /// What a run over these outputs came to, of which this was seen in the end where it was asked
+    /// to stop, which did not admit some requests, and which had reached a history before. Nobody
+    /// shares the outputs any more. The only error is out of memory.
     pub(crate) fn of(
         alloc: Global,
         outputs: Vec<Output<J>>,

@@ -502,8 +502,8 @@ impl<J: Run + Send + Sync> Loop<J> {
 }
 
 /// What a run over these outputs came to, of which this was seen in the end where it was asked to
-/// stop, which did not admit some requests, and which had reached a history before. The only error is
-/// out of memory.
+/// stop, which did not admit some requests, and which had reached a history before. The only error
+/// is out of memory.
 fn outcome_of<J: Run>(
     alloc: Global,
     outputs: Vec<Output<J>>,

@@ -1,6 +1,6 @@
 -- A read gives none of the requests that wait.
 use Rattle.std.proofs.Common.{arith, ◌≡◌, ◌≢◌, ◌<◌, ◌≤◌, ◌⊎◌, inl, inr, Bool, true, false, ℕ, List, [], ◌∷◌, length, Option, Some, refl, ap, ◌∙◌}
-use Rattle.std.specs.Prelude.{nat_lt, if◌then◌else◌}
+use Rattle.std.specs.Prelude.{drop, nat_lt, if◌then◌else◌}
 use Rattle.std.proofs.lemmas.Bool.Decides.{nat_tests}
 use Rattle.fwd_source.specs.Live.{LiveSource, live_piece_next, source_hears}
 use Rattle.fwd_peers.specs.Peers.{PeerShown, Reads, TakesIn, end_by, is_too_long}
@@ -9,6 +9,7 @@ use Rattle.fwd_peers.specs.declared.close_reason.PeerEnd.{PeerEnd}
 use Rattle.fwd_peers.specs.declared.limits.TheConstants.{UNSENT}
 use Rattle.fwd_peers.specs.declared.peer_state.PeerState.{PeerState}
 use Rattle.fwd_peers.specs.declared.peer_state.PeerState.TheVariants as stage
+use Rattle.fwd_turns.specs.Leaving.{TakesAhead}
 use Rattle.fwd_turns.specs.Visits.{judged}
 
 -- a piece gives none
@@ -82,6 +83,16 @@ judged_gives s = by (is_too_long s)
     by true = refl
     by false = refl
 
+-- that leaves as it was how far it has come where the relay was asked to stop
+pub judged_leaves : (s : PeerShown) → (judged s).leave ≡ s.leave
+judged_leaves s = by (is_too_long s)
+  where
+    by : (b : Bool) → (if b then
+        record s { stage = stage.Over; why = Some (end_by reason.NoLogin) }
+        else s).leave ≡ s.leave
+    by true = refl
+    by false = refl
+
 -- a source is read and judged
 pub gives_none : (now most : ℕ) (to_end more : Bool) (s between t : PeerShown)
     → (s.stage ≢ stage.Open → (between ≡ s) × (more ≡ false))
@@ -103,3 +114,10 @@ ahead_gives s t bytes taken closed = by (open_or_not s.stage)
     by : (s.stage ≡ stage.Open) ⊎ (s.stage ≢ stage.Open) → t.live.admitted ≡ s.live.admitted
     by (inl is_open) = takes_gives s bytes t.live t.stage t.why (taken is_open)
     by (inr not_open) = ap (λ (p : PeerShown). p.live.admitted) (closed not_open)
+
+-- so they are where a source is judged by them
+pub taken_gives : (taken : ℕ) (seen : List ℕ) (s t : PeerShown) → TakesAhead taken seen s t
+    → t.live.admitted ≡ s.live.admitted
+taken_gives taken seen s t ahead =
+    ap (λ (p : PeerShown). p.live.admitted) ahead.after ∙ judged_gives ahead.between
+    ∙ ahead_gives s ahead.between (drop taken seen) ahead.takes ahead.closed

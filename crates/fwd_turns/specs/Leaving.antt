@@ -1,8 +1,8 @@
 -- What becomes of a source of a relay that was asked to stop.
-use Rattle.std.specs.Prelude.{◌≡◌, ◌≢◌, ◌==◌, ◌||◌, ◌-◌, ℕ, Bool, true, false, nat_lt, if◌then◌else◌}
+use Rattle.std.specs.Prelude.{◌≡◌, ◌≢◌, ◌==◌, ◌||◌, ◌&&◌, ◌-◌, ℕ, Bool, true, false, List, drop, nat_le, nat_lt, if◌then◌else◌}
 use Rattle.fwd_peers.specs.Leaving as leaving
 use Rattle.fwd_peers.specs.Leaving.{age, begun, found_empty, with_bytes}
-use Rattle.fwd_peers.specs.Peers.{PeerShown, is_owed_nothing}
+use Rattle.fwd_peers.specs.Peers.{PeerShown, TakesIn, is_owed_nothing}
 use Rattle.fwd_peers.specs.declared.leave_stage.LastReading.{LastReading}
 use Rattle.fwd_peers.specs.declared.leave_stage.LeaveStage.{LeaveStage}
 use Rattle.fwd_peers.specs.declared.leave_stage.LeaveStage.TheVariants.{Stays, Reads, Settles, Leaves, Cut}
@@ -13,17 +13,22 @@ use Rattle.fwd_turns.specs.declared.leaving.Found.{Found}
 use Rattle.fwd_turns.specs.declared.leaving.Found.TheVariants as finds
 use Rattle.fwd_turns.specs.declared.leaving.LeaveStep.{LeaveStep}
 use Rattle.fwd_turns.specs.declared.leaving.LeaveStep.TheVariants as step
-use Rattle.fwd_turns.specs.declared.leaving.TheConstants.{GAP, HELD, LINGER, LONGEST, QUIET}
+use Rattle.fwd_turns.specs.declared.leaving.TheConstants.{BRIEF, ENDLESS, GAP, HELD, LINGER, LONGEST, QUIET}
+use Rattle.fwd_turns.specs.Visits.{judged}
 
 -- ---- when a source goes on
 
--- for how long a stream is empty that is quiet, which had been read for so long when it became empty
+-- for how long a stream is empty that is quiet, which had been read for so long when it became
+-- empty
 abbrev pub quiet_at : (age : ℕ) → ℕ
 quiet_at age = if nat_lt age 1000 then QUIET else 0
 
 -- the same of a source that was told that no more comes, where bytes that were taken stay there
 abbrev pub gap_at : (age : ℕ) → ℕ
-gap_at age = if nat_lt age 1000 then QUIET else if nat_lt age LONGEST then GAP else 0
+gap_at age =
+    if nat_lt age 1000 then QUIET
+    else if nat_lt age LONGEST then GAP
+    else if nat_lt age ENDLESS then BRIEF else 0
 
 -- the same where so many bytes stay there
 abbrev pub pause_at : (taken age : ℕ) → ℕ
@@ -37,14 +42,6 @@ is_quiet now r = leaving.is_quiet (quiet_at (age r)) now r
 -- the same of a source that was told that no more comes, of which so many bytes stay unread
 abbrev pub is_done : (now : ℕ) → LastReading → (taken : ℕ) → Bool
 is_done now r taken = leaving.is_quiet (pause_at taken (age r)) now r
-
--- it was told that no more comes, and its stream has been empty for long enough at a moment
-abbrev pub is_over : (now : ℕ) → LeaveStage → Bool
-is_over now Stays = false
-is_over now (Reads r) = false
-is_over now Settles = false
-is_over now (Leaves r taken) = is_done now r taken
-is_over now Cut = false
 
 -- a source is over, where that is so
 abbrev pub ended_if : Bool → PeerShown → PeerShown
@@ -84,12 +81,32 @@ taken_of Settles = 0
 taken_of (Leaves r taken) = taken
 taken_of Cut = 0
 
--- what a stream has that was seen to have so many bytes, of which so many were taken
-abbrev pub ahead_of : (seen taken : ℕ) → Ahead
-ahead_of seen taken =
-    if nat_lt HELD seen then ahead.Many else if nat_lt taken seen then ahead.Few else ahead.Nothing
+-- What a stream has that was seen to have so many bytes, of which so many were taken, and which was
+-- found empty at the look before or not: bytes may stay there that are few, and all that came since
+-- the relay last had all.
+abbrev pub ahead_of : (seen taken : ℕ) → (was_empty : Bool) → Ahead
+ahead_of seen taken was_empty =
+    if nat_le seen taken then ahead.Nothing
+    else if nat_le (seen - taken) HELD && (nat_lt 0 taken || was_empty) then ahead.Few else ahead.Many
 
--- how a source is read on behind a read at a moment of so many bytes at most
+-- what a source's stream has behind so many bytes that were taken before is taken in, if it is
+-- open, and the source is judged by it
+pub record TakesAhead (taken : ℕ) (seen : List ℕ) (s t : PeerShown) : Type 0 where
+  pub between : PeerShown
+  pub takes : s.stage ≡ state.Open
+      → TakesIn s (drop taken seen) between.live between.stage between.why
+  pub closed : s.stage ≢ state.Open → between ≡ s
+  pub after : t ≡ judged between
+  pub leave : t.leave ≡ s.leave
+
+-- the stream of a source was found empty at a moment, but for so many bytes that were taken: it is
+-- over where it closed, or where its stream has been empty for long enough
+abbrev pub left_empty : (now : ℕ) → (closed : Bool) → LastReading → (taken : ℕ) → PeerShown → PeerShown
+left_empty now closed r taken s =
+    ended_if (closed || is_done now (found_empty now r) taken)
+    (record s { leave = Leaves (found_empty now r) taken })
+
+-- how a source is read on behind a read at a moment of so many bytes
 abbrev pub read_by : (now : ℕ) → Found → (count : ℕ) → LastReading → LastReading
 read_by now finds.More count r = with_bytes count r
 read_by now finds.Last count r = found_empty now (with_bytes count r)

@@ -240,8 +240,8 @@ impl Acceptor {
         })
     }
 
-    /// The relay was asked to stop: no more sources are taken from now on than may have waited then.
-    /// It looks whether some wait.
+    /// The relay was asked to stop: no more sources are taken from now on than may have waited
+    /// then. It looks whether some wait.
     pub fn take_last(&mut self) {
         self.last = self.last.or(Some(QUEUE));
         self.sources.notified();

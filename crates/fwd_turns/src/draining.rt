@@ -13,22 +13,22 @@
 //!        Stays ──> Reads ──> Settles ──> Leaves ──> gone
 //!
 //!    - `Reads`: it is read until its stream is quiet: found empty at two looks, `QUIET`
-//!      milliseconds apart, and at each between them. One read that finds nothing proves little: the
-//!      source's own system may hold bytes back, until the relay's has acknowledged those before, or
-//!      since the relay had not read for long and left no room for them.
+//!      milliseconds apart, and at each between them. One read that finds nothing proves little:
+//!      the source's own system may hold bytes back, until the relay's has acknowledged those
+//!      before, or since the relay had not read for long and left no room for them.
 //!    - `Settles`: it is read no more. What waits for room is admitted as ever, and it is told of
 //!      what is settled.
 //!    - `Leaves`: it is owed nothing, and was told by the end of the relay's stream that no more
-//!      comes. It goes once its other side has closed, or its stream is quiet. What it sends is taken
-//!      as before, and it is told of nothing more: whoever asks to be told sends that again. The last
-//!      bytes that were taken, `HELD` at the most, are left unread in its stream. So the system resets
-//!      the connection when it is closed, and the next write of its other side fails, and loses
-//!      nothing. More are not left there, for they would close the window of the other side, whose
-//!      system could not send what it still has.
+//!      comes. It goes once its other side has closed, or its stream is quiet. What it sends is
+//!      taken as before, and it is told of nothing more: whoever asks to be told sends that again.
+//!      The last piece that was taken is left unread in its stream, if it is no longer than `HELD`.
+//!      So the system resets the connection when it is closed, and the next write of its other side
+//!      fails, and loses nothing. More is not left there, for that would close the window of the
+//!      other side, whose system could not send what it still has.
 //!
-//!    A source is read `MOST` bytes (`LastReading`) in a stage at the most. One that sends more while
-//!    it leaves is cut off, and the relay does not say then that all is delivered. A source whose
-//!    other side is gone goes as ever, after what it sent was read to the end.
+//!    A source is read `MOST` bytes (`LastReading`) in a stage at the most. One that sends more
+//!    while it leaves is cut off, and the relay does not say then that all is delivered. A source
+//!    whose other side is gone goes as ever, after what it sent was read to the end.
 //! 3. Each reader closes all chunks in each turn, as soon as a worker looks for one. Workers go on
 //!    as ever, with retries and standbys.
 //! 4. It ends once the listener is closed, no source is left at any reader, and no output holds an
@@ -81,7 +81,8 @@ impl DrainSeen {
         self.is_done() && self.cut == 0
     }
 
-    /// How many sources were not read to their end, where one stands for all that may wait to connect.
+    /// How many sources were not read to their end, where one stands for all that may wait to
+    /// connect.
     pub fn unread(self) -> u64
         ensures { result ≡ 0 → IsReadOut self }
     {

@@ -43,7 +43,7 @@ const PAUSE: u64 = 5;
 
 /// The longest wait of a turn of a relay that was asked to stop, in milliseconds: so streams are
 /// looked at often enough to find that they are quiet.
-const DRAINING: u64 = 20;
+const DRAINING: u64 = 10;
 
 /// How often a loop that was at work in its last turn looks for more before it sleeps: some ten
 /// microseconds. One that found nothing in its last turn sleeps at once, so that an idle relay does

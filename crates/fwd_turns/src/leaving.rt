@@ -1,18 +1,18 @@
 //! What becomes of a source of a relay that was asked to stop: how far it has come, how it is read,
 //! and when it goes. What the stages are stands in `draining`.
 
-ghost use Rattle.std.specs.Prelude.{◌≡◌, ◌<◌, false, length};
+ghost use Rattle.std.specs.Prelude.{◌≡◌, ◌+◌, ◌<◌, ◌≤◌, false, length};
 ghost use Rattle.fwd_peers.specs.Peers.{is_owed_nothing};
 ghost use Rattle.fwd_peers.specs.declared.peer_state.PeerState.TheVariants.{Over};
 ghost use Rattle.fwd_turns.specs.Leaving.{
   GoesOn,
+  TakesAhead,
   ahead_of,
   comes_to,
-  ended_if,
   gap_at,
   is_done,
-  is_over,
   is_quiet,
+  left_empty,
   pause_at,
   quiet_at,
   read_by,
@@ -21,7 +21,7 @@ ghost use Rattle.fwd_turns.specs.Leaving.{
   taken_of,
 };
 
-use crate::visiting::read_source;
+use crate::visiting::{judge, read_source};
 use fwd_history::Run;
 use fwd_output::UnsentRequests;
 use fwd_peers::{LastReading, LeaveStage, SourcePeer};
@@ -32,21 +32,28 @@ use std::alloc::Global;
 /// it acknowledges bytes, and before it sends again what was lost.
 pub(crate) const QUIET: u64 = 250;
 
-/// The same of a source that was told that no more comes, and sent without such a pause for a second:
-/// longer than a system waits in the least before it acknowledges bytes, so that a burst is over.
+/// The same of a source that was told that no more comes, and sent without such a pause for a
+/// second: longer than a system waits in the least before it acknowledges bytes, so that a burst is
+/// over.
 pub(crate) const GAP: u64 = 60;
 
 /// How long a source that was told that no more comes may send without even a gap, in milliseconds.
-/// Then it is enough that a look finds nothing behind bytes that came: the system of the other side
-/// holds the least back at that moment.
+/// Then a brief one is enough.
 pub(crate) const LONGEST: u64 = 5_000;
+
+/// How long a brief gap is, in milliseconds: longer than a burst is held up in between.
+pub(crate) const BRIEF: u64 = 10;
+
+/// How long it may send without even a brief gap, in milliseconds. Then it is enough that a look
+/// finds nothing behind bytes that came: the system of the other side holds the least back then.
+pub(crate) const ENDLESS: u64 = 10_000;
 
 /// For how long the stream of a source is empty that was told that no more comes, and of which no
 /// byte stays unread, in milliseconds: it has so long to close. Once it sent for longer than it may
 /// without such a pause, a gap is enough.
 pub(crate) const LINGER: u64 = 1_000;
 
-/// The most bytes that stay unread in a stream once they were taken.
+/// The most bytes of a piece that stays unread in a stream once it was taken.
 pub(crate) const HELD: usize = 16_384;
 
 /// What becomes of a source in a visit that reads nothing.
@@ -62,8 +69,8 @@ pub(crate) enum LeaveStep {
     Looks,
 }
 
-/// For how long a stream is empty that is quiet, which had been read for so long when it became empty
-/// (both in milliseconds): once it sent for a second without a pause, no longer.
+/// For how long a stream is empty that is quiet, which had been read for so long when it became
+/// empty (both in milliseconds): once it sent for a second without a pause, no longer.
 fn quiet_at(age: u64) -> u64
     ensures { result ≡ quiet_at age }
 {
@@ -79,6 +86,8 @@ fn gap_at(age: u64) -> u64
         QUIET
     } else if age < LONGEST {
         GAP
+    } else if age < ENDLESS {
+        BRIEF
     } else {
         0
     }
@@ -162,7 +171,7 @@ fn found_by(may_have_more: bool, has_bytes: bool) -> Found
     }
 }
 
-/// How a source is read on behind a read at a moment (milliseconds) of so many bytes at the most.
+/// How a source is read on behind a read at a moment (milliseconds) of so many bytes.
 fn read_by(reading: LastReading, found: Found, count: usize, now: u64) -> LastReading
     ensures { result ≡ read_by now found count reading }
 {
@@ -173,7 +182,7 @@ fn read_by(reading: LastReading, found: Found, count: usize, now: u64) -> LastRe
     }
 }
 
-/// How far a source has come behind a read at a moment (milliseconds) of so many bytes at the most.
+/// How far a source has come behind a read at a moment (milliseconds) of so many bytes.
 fn after_read(stage: LeaveStage, found: Found, count: usize, now: u64) -> LeaveStage
     ensures { result ≡ comes_to now found count stage }
 {
@@ -240,7 +249,7 @@ fn read_on<J: Run>(
     ensures leave { GoesOn now source.old source.new }
 {
     let stage = source.leave_stage();
-    let count = source.portion(room.len());
+    let count = source.look(room).min(source.portion(room.len()));
     let again = read_source(source, alloc, room, to_end, now);
     let found = found_by(again, source.heard() == now);
     let stage = after_read(stage, found, count, now);
@@ -248,8 +257,8 @@ fn read_on<J: Run>(
     again && is_read(stage, to_end)
 }
 
-/// A source that was told that no more comes is over before it was read to its end. There is nothing
-/// more to be read of it.
+/// A source that was told that no more comes is over before it was read to its end. There is
+/// nothing more to be read of it.
 fn cut_off<J: Run>(source: &mut SourcePeer<J>) -> bool
     ensures cut { source.new ≡ record source.old { stage = Over; leave = LeaveStage.Cut } }
     ensures none { result ≡ false }
@@ -259,18 +268,6 @@ fn cut_off<J: Run>(source: &mut SourcePeer<J>) -> bool
     false
 }
 
-/// A source that was told that no more comes goes, if its stream has been empty for long enough at a
-/// moment (milliseconds).
-fn end_if_quiet<J: Run>(source: &mut SourcePeer<J>, now: u64)
-    ensures { source.new ≡ ended_if (is_over now source.old.leave) source.old }
-{
-    if let LeaveStage::Leaves { reading, taken } = source.leave_stage() {
-        if is_done(reading, taken, now) {
-            source.end();
-        }
-    }
-}
-
 /// What a source's stream has beside what was taken of it.
 #[derive(Clone, Copy, PartialEq, Eq)]
 pub(crate) enum Ahead {
@@ -278,26 +275,30 @@ pub(crate) enum Ahead {
     Nothing,
     /// Bytes that may stay there.
     Few,
-    /// More than may stay there, with what was taken.
+    /// Bytes that may not.
     Many,
 }
 
-/// What a stream has that was seen to have so many bytes, of which so many were taken.
-fn ahead_of(seen: usize, taken: usize) -> Ahead
-    ensures { result ≡ ahead_of seen taken }
+/// What a stream has that was seen to have so many bytes, of which so many were taken, and which was
+/// found empty at the look before or not. Bytes stay there only if they are all that came since the
+/// relay last had all: a part of more may close the window of the other side, which could not send
+/// the rest.
+fn ahead_of(seen: usize, taken: usize, was_empty: bool) -> Ahead
+    ensures { result ≡ ahead_of seen taken was_empty }
 {
-    if seen > HELD {
-        Ahead::Many
-    } else if seen > taken {
+    if seen <= taken {
+        Ahead::Nothing
+    } else if seen - taken <= HELD && (taken > 0 || was_empty) {
         Ahead::Few
     } else {
-        Ahead::Nothing
+        Ahead::Many
     }
 }
 
 /// Reads a source at a moment (milliseconds) that was told that no more comes, and of which no
 /// request waits; and says whether there may be more that is to be read. Each byte of it is taken
-/// once.
+/// once, however much waits to be sent to it, for it is sent nothing more. Of what was taken the last
+/// piece stays in its stream, if it is no longer than `HELD`.
 fn read_last<J: Run>(
     source: &mut SourcePeer<J>,
     alloc: Global,
@@ -311,57 +312,67 @@ fn read_last<J: Run>(
         return false;
     };
     let seen = source.look(room);
-    match ahead_of(seen, taken) {
-        Ahead::Many => read_many(source, alloc, room, to_end, now),
-        Ahead::Few => {
-            source.hear_ahead(alloc, room.get(..seen).unwrap_or(&[]), taken, now);
-            source.leave_by(LeaveStage::Leaves {
-                reading: reading.with_bytes(seen.saturating_sub(taken)),
-                taken: seen,
-            });
-            true
-        }
-        Ahead::Nothing if taken == 0 => {
-            let again = read_on(source, alloc, room, to_end, now);
-            end_if_quiet(source, now);
-            again
-        }
+    let before = match ahead_of(seen, taken, reading.empty.is_some()) {
         Ahead::Nothing => {
-            let reading = reading.found_empty(now);
-            source.leave_by(LeaveStage::Leaves { reading, taken });
-            if to_end {
-                source.end();
-            }
-            end_if_quiet(source, now);
-            false
+            find_empty(source, reading, taken, to_end, now);
+            return false;
         }
-    }
+        Ahead::Few => taken,
+        Ahead::Many => seen,
+    };
+    take_ahead(source, alloc, &room[..seen], taken, now);
+    let dropped = drop_front(source, &mut room[..before]);
+    source.leave_by(LeaveStage::Leaves {
+        reading: reading.with_bytes(seen.saturating_sub(taken)),
+        taken: seen.saturating_sub(dropped),
+    });
+    source.stands()
 }
 
-/// The same where its stream has more than may stay there: what was taken before is dropped, and it
-/// is read.
-fn read_many<J: Run>(
+/// Takes in what a source's stream has behind so many bytes that were taken before, at a moment
+/// (milliseconds). It stays there.
+fn take_ahead<J: Run>(
     source: &mut SourcePeer<J>,
     alloc: Global,
-    room: &mut [u8],
+    seen: &[u8],
+    taken: usize,
+    now: u64,
+)
+    ensures { TakesAhead taken seen.now source.old source.new }
+{
+    source.hear_ahead(alloc, seen, taken, now);
+    judge(source);
+}
+
+/// A source's stream drops its first bytes, which were taken, as many as the room has: how many it
+/// dropped.
+fn drop_front<J: Run>(source: &mut SourcePeer<J>, room: &mut [u8]) -> usize
+    ensures { source.new.live ≡ source.old.live }
+{
+    if room.is_empty() {
+        // To read nothing looks like the stream's end.
+        return 0;
+    }
+    source.drop_taken(room)
+}
+
+/// The stream of a source that was told that no more comes was found empty at a moment
+/// (milliseconds), but for the bytes that were taken: it goes if it closed, or if its stream has
+/// been empty for long enough.
+fn find_empty<J: Run>(
+    source: &mut SourcePeer<J>,
+    reading: LastReading,
+    taken: usize,
     to_end: bool,
     now: u64,
-) -> bool
-    ensures { source.new.live.admitted ≡ source.old.live.admitted }
+)
+    ensures { source.new ≡ left_empty now to_end reading taken source.old }
 {
-    let LeaveStage::Leaves { reading, taken } = source.leave_stage() else {
-        return false;
-    };
-    let dropped = match room.get_mut(..taken) {
-        Some(front) => source.drop_taken(front),
-        None => 0,
-    };
-    let taken = taken.saturating_sub(dropped);
+    let reading = reading.found_empty(now);
     source.leave_by(LeaveStage::Leaves { reading, taken });
-    if taken > 0 {
-        return source.stands();
+    if to_end || is_done(reading, taken, now) {
+        source.end();
     }
-    read_on(source, alloc, room, to_end, now)
 }
 
 /// Visits each source of a reader that drains at a moment (milliseconds).

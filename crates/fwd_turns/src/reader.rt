@@ -295,8 +295,8 @@ impl<'a, J: Run, R: Wait + Clock> Reader<'a, J, R> {
             .read_all(rt, &mut context, observer, &mut self.clock);
     }
 
-    /// Wakes workers that could send a chunk at a moment (milliseconds); counts what was admitted; and
-    /// looks at who waits.
+    /// Wakes workers that could send a chunk at a moment (milliseconds); counts what was admitted;
+    /// and looks at who waits.
     pub fn tend_outputs<W: Observer>(&mut self, rt: &R, observer: &mut W, now: u64) {
         self.router
             .wake_due(rt, now, self.mailbox.flags().is_draining());

@@ -252,8 +252,8 @@ impl<'a, J: Run, R: Wait + Clock> FrontTurns<'a, J, R> {
         }
     }
 
-    /// What the reader in front saw of a relay that was asked to stop when it had nothing left to do,
-    /// or no time.
+    /// What the reader in front saw of a relay that was asked to stop when it had nothing left to
+    /// do, or no time.
     pub fn last_seen(&self) -> Option<DrainSeen> {
         self.turns.front.as_ref()?.drain.last()
     }

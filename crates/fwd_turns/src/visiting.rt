@@ -107,8 +107,8 @@ impl Visited {
 }
 
 /// Writes what waits to be sent to a source, unless it was told that no more comes, and says what
-/// becomes of it: there may be more to be read, some of its requests wait longer, and the system told
-/// that it closed.
+/// becomes of it: there may be more to be read, some of its requests wait longer, and the system
+/// told that it closed.
 pub(crate) fn after_visit<J: Run>(
     source: &mut SourcePeer<J>,
     may_have_more: bool,
@@ -210,7 +210,7 @@ pub(crate) fn read_source<J: Run>(
 }
 
 /// A source that has yet to log in and sent more than a PING may have is over.
-fn judge<J: Run>(source: &mut SourcePeer<J>)
+pub(crate) fn judge<J: Run>(source: &mut SourcePeer<J>)
     ensures { source.new ≡ judged source.old }
 {
     if source.is_too_long() {
