@@ -9,7 +9,7 @@
 #
 #     /usr/sbin/forward_relay
 #     what that is linked with: this machine's C library, and its loader
-#     /usr/share/doc               the copyright of each, OPERATING.md and FORMATS.md
+#     /usr/share/doc               the copyright of each, OPERATING.md, FORMATS.md and AVAILABILITY.md
 #     /etc/passwd, /etc/group      a user relay of number 10000, whose /run is, for the control socket
 #
 # and no shell. It needs Debian's libc-bin, for ldd, dpkg and tar, downloads nothing, and takes a second. It prints how to
@@ -51,7 +51,7 @@ ldd "$program" | sed -n 's/^[[:space:]]*\(.* => \)\{0,1\}\(\/[^ ]*\) (0x[0-9a-f]
     mkdir -p "$doc/$package"
     cp -L "/usr/share/doc/$package/copyright" "$doc/$package"
 done
-cp packaging/deb/copyright docs/OPERATING.md docs/FORMATS.md "$doc/forward_relay"
+cp packaging/deb/copyright docs/OPERATING.md docs/FORMATS.md docs/AVAILABILITY.md "$doc/forward_relay"
 echo "relay:x:10000:10000::/nonexistent:/usr/sbin/nologin" >"$tree/etc/passwd"
 echo "relay:x:10000:" >"$tree/etc/group"
 

@@ -66,7 +66,7 @@ Maintainer: $maintainer
 Installed-Size: $(du -sk --exclude=DEBIAN "$tree" | cut -f 1)
 Depends: libc6 (>= ${libc#GLIBC_}), systemd | systemd-standalone-sysusers
 Recommends: python3 (>= 3.9)
-Suggests: haproxy, prometheus, stunnel4
+Suggests: haproxy, prometheus, python3-msgpack, stunnel4
 Section: net
 Priority: optional
 Description: log relay that acknowledges what was delivered
@@ -75,7 +75,7 @@ Description: log relay that acknowledges what was delivered
  acknowledges a source's request only once the next hop has acknowledged all
  of it. That no acknowledgement comes too early is proved.
  .
- It keeps nothing on disk, and runs as a service without rights of its own.
+ It keeps nothing on disk, and runs as a service without privileges.
 TEXT
 (cd "$tree" && find . -type f ! -path './DEBIAN/*' -printf '%P\n' | LC_ALL=C sort | xargs md5sum >DEBIAN/md5sums)
 dpkg-deb --build --root-owner-group -Zxz -z1 "$tree" "$package" >"$folder/built"

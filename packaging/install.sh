@@ -9,9 +9,11 @@
 #     P/sbin/forward_relay
 #     P/bin/forward_relay-watch        needs python3 (3.9 or later) and nothing else
 #     P/bin/forward_relay-sizing       the same
+#     P/bin/forward_relay-next_hop     a server to try a relay with; needs Debian's python3-msgpack
 #     P/lib/forward_relay/             what these are
 #     P/share/man/man8/forward_relay.8
-#     P/share/doc/forward_relay/       OPERATING.md, FORMATS.md, CHANGELOG.md, examples, and the list of folders that were made
+#     P/share/doc/forward_relay/       OPERATING.md, FORMATS.md, AVAILABILITY.md, CHANGELOG.md, examples, and the list of
+#                                      folders that were made
 #     P/lib/systemd/system/forward_relay.service
 #     P/etc/forward_relay/relay.toml   the example settings with the unit's control socket, readable by root alone, and
 #                                      never over an existing file;
@@ -55,7 +57,8 @@ bin=$prefix/bin sbin=$prefix/sbin lib=$prefix/lib/forward_relay man=$prefix/shar
 doc=$prefix/share/doc/forward_relay unit=$prefix/lib/systemd/system
 root=${DESTDIR:-}
 folders=$root$doc/folders
-tools='watch sizing'
+tools='watch sizing next_hop'
+documents='docs/OPERATING.md docs/FORMATS.md docs/AVAILABILITY.md CHANGELOG.md'
 version=$(sed -n 's/^pub const VERSION: &str = "\(.*\)";$/\1/p' crates/fwd_monitor/src/version.rt)
 
 # makes a folder and those above it, and notes each that was not there
@@ -102,7 +105,7 @@ write_settings() {
 install_all() {
     [ -x "$program" ] || {
         cat >&2 <<TEXT
-no program at $program: name one with RELAY, or build it, which takes about half an hour on four cores:
+no program at $program: name one with RELAY, or build it, which takes about an hour on four cores:
     (cd crates/forward_relay && rt run -- check ../../examples/relay.toml)
 TEXT
         exit 1
@@ -119,7 +122,7 @@ TEXT
     done
     put tools/page.py 644 "$lib/page.py"
     put_filled packaging/forward_relay.8 644 "$man/forward_relay.8"
-    for file in docs/OPERATING.md docs/FORMATS.md CHANGELOG.md; do
+    for file in $documents; do
         put "$file" 644 "$doc/${file##*/}"
     done
     for file in examples/*; do
@@ -159,7 +162,7 @@ uninstall_all() {
     done
     take "$lib/page.py"
     take "$man/forward_relay.8"
-    for file in docs/OPERATING.md docs/FORMATS.md CHANGELOG.md examples/*; do
+    for file in $documents examples/*; do
         take "$doc/${file##*/}"
     done
     for file in examples/*; do

@@ -16,7 +16,10 @@ import threading
 import time
 from typing import NamedTuple
 
-import msgpack
+try:
+    import msgpack
+except ImportError:
+    sys.exit("this needs Debian's python3-msgpack")
 
 HOST = "127.0.0.1"
 OTHER = "A" * 22 + "=="  # a name that no chunk of a relay with a run_id of its own has
@@ -233,6 +236,8 @@ def pass_over(_frame):
 
 
 if __name__ == "__main__":
-    words = sys.argv[2:]
-    NextHop(int(sys.argv[1]), keep_silent if words == ["silent"] else acknowledge, take=pass_over if words else show)
+    port, *words = sys.argv[1:] or [""]
+    if not port.isdigit() or words not in ([], ["quiet"], ["silent"]):
+        sys.exit(f"usage: next_hop PORT [quiet|silent], and not {' '.join(sys.argv[1:]) or 'nothing'}")
+    NextHop(int(port), keep_silent if words == ["silent"] else acknowledge, take=pass_over if words else show)
     threading.Event().wait()

@@ -1,12 +1,16 @@
 #!/usr/bin/env python3
-"""What a relay takes of memory and of files: docs/OPERATING.md ("Sizing") has rows of this table.
+"""What a relay takes of memory and of files: docs/OPERATING.md ("Sizing") has rows of this table, and the formula.
 
+    python3 tools/sizing.py plan SETTINGS [REQUEST [TAGS]]
     python3 tools/sizing.py [PROGRAM]
 
-PROGRAM is a built forward_relay; else RELAY names it, or it is crates/forward_relay/out/forward_relay. Each row is a
-relay of its own on free ports of 127.0.0.1, with a server that is not there, so that it holds all that it accepts. The
-row says how much its resident memory grew for each of so many, and what of that is the bytes of their entries. It takes
-half a minute.
+`plan` computes how much memory a relay may take by a file of settings, where sources send requests of at most REQUEST
+bytes (by default as many as message_limit allows), and at most TAGS tags hold entries at a time (by default 1,000).
+
+The second call measures. PROGRAM is a built forward_relay; else RELAY names it, or it is
+crates/forward_relay/out/forward_relay. Each row is a relay of its own on free ports of 127.0.0.1, with a server that is
+not there, so that it holds all that it accepts. The row says how much its resident memory grew for each of so many, and
+what of that is the bytes of their entries. It takes half a minute.
 """
 
 import os
@@ -21,6 +25,12 @@ import time
 from page import NoPage, read_page
 
 SIZE = 200  # bytes of an entry
+
+# What `plan` counts for each, in bytes: rows of the table in OPERATING, rounded up.
+EACH = {"relay": 2_500_000, "reader": 200_000, "connection": 2_500, "worker": 87_000, "session": 22_500, "tag": 1_400}
+PIECES = 65_536  # what a source that waits may have sent beside its first request
+UNANSWERED = 2_097_152  # what unanswered requests may take at an output, at least
+DEFAULTS = {"connections": 256, "message_limit": 16_777_216, "readers": 1, "workers": 1, "total_limit": 512_000_000}
 
 SETTINGS = """[relay]
 listen = "127.0.0.1:{port}"
@@ -156,7 +166,42 @@ def sessions(program, folder, workers=16):
         return (site.files() - before - 1) / workers
 
 
+def planned(settings, request=None, tags=1000):
+    """How many bytes a relay may take by settings: of what, and how many."""
+    value = lambda table, key: table.get(key, DEFAULTS[key])
+    relay, outputs = settings.get("relay", {}), settings.get("output", [])
+    connections, readers = value(relay, "connections"), value(relay, "readers")
+    request = request or value(relay, "message_limit")
+    workers = sum(value(output, "workers") for output in outputs)
+    limits = [value(output, "total_limit") for output in outputs]
+    waits = any(output.get("full") == "wait" for output in outputs)
+    return {
+        "entries that outputs hold": sum(limits),
+        "their requests, not answered yet": readers * sum(max(2 * limit, UNANSWERED) for limit in limits),
+        "requests that are unfinished or wait": connections * (2 * (request + PIECES) if waits else request),
+        "connections, workers, readers, tags": EACH["relay"]
+        + EACH["reader"] * (readers - 1)
+        + EACH["connection"] * connections
+        + (EACH["worker"] + EACH["session"]) * workers
+        + EACH["tag"] * tags,
+    }
+
+
+def plan(path, *numbers):
+    """Prints the plan for a file of settings."""
+    try:
+        import tomllib
+    except ImportError:
+        sys.exit("plan needs a Python with tomllib, as Debian 12 has it")
+    with open(path, "rb") as file:
+        parts = planned(tomllib.load(file), *map(int, numbers))
+    for what, count in [*parts.items(), ("together", sum(parts.values()))]:
+        print(f"{count:>18,}  {what}")
+
+
 def main():
+    if sys.argv[1:2] == ["plan"] and 3 <= len(sys.argv) <= 5:
+        return plan(*sys.argv[2:])
     program = (sys.argv[1:] + [os.environ.get("RELAY") or "crates/forward_relay/out/forward_relay"])[0]
     with tempfile.TemporaryDirectory() as folder:
         print(f"| each, of so many | bytes | of these its entries' of {SIZE} bytes | the rest |\n|---|---|---|---|")

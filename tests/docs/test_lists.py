@@ -142,12 +142,15 @@ def fronts(lines):
 
 
 def test_journal():
-    """FORMATS, OPERATING and the manual page have the lines that the program has; OPERATING those beside it too."""
+    """FORMATS, OPERATING and the manual page have the lines that the program has; OPERATING those of other texts too."""
     want = kinds_in_code()
     assert len(want) > 10
     assert fronts(journal_forms()) == want
     table = rows(section(text_of("docs/OPERATING.md"), "## The lines of the journal"))
-    assert fronts(span for row in table for span in spans(row[0])) == want | {"settings", "listen", "caution"}
+    statuses = rows(section(text_of("docs/FORMATS.md"), "## Statuses of the program"))
+    others = fronts(span for row in statuses for span in spans(row[1])) - {"line N"} | {"caution"}
+    assert {"settings", "listen", "start", "usage", "stop"} <= others
+    assert fronts(span for row in table for span in spans(row[0])) == want | others
     man = re.search(r"^\.Sh JOURNAL\n(.*?)^\.Sh ", text_of("packaging/forward_relay.8"), re.MULTILINE | re.DOTALL)[1]
     lines = [line.replace(' Ar o Li "', " ") for line in man.splitlines() if line.startswith(".It ")]
     items = [re.findall(r'Li "?([a-z ]+):', line) for line in lines]

@@ -90,13 +90,15 @@ def test_kit():
 
 
 def test_times():
-    """README gives the times that CONTRIBUTING has, for the program and for the gate from nothing."""
+    """README gives the times that CONTRIBUTING has, for the program and for the gate from nothing; so do others."""
     said = section(text_of("CONTRIBUTING.md"), "## How long it takes")
     program = re.search(r"(\S+ \S+ hour|\S+ hour\S* and \S+ \S+) for `forward_relay`", said)[1]
     gate = re.search(r"From nothing, `rt ci` takes (an? [^,.]*?hours?(?: and a \w+)?|\w+ hours) ", said)[1]
     install = section(text_of("README.md"), "## Install").replace("\n", " ")
     assert f"in {program} on four cores" in install
     assert f"{gate} from nothing" in install
+    for name in ("packaging/install.sh", "bench/README.md"):
+        assert re.findall(r"which takes (about [^,;:]*? hour)", text_of(name)) == [program], name
 
 
 def test_edits():

@@ -1,5 +1,6 @@
 """The package's unit under a systemd that was booted: a restart loses nothing, whatever has become of the settings."""
 
+import re
 import shutil
 import subprocess
 import time
@@ -8,7 +9,7 @@ import pytest
 
 import loggers
 from booted import Booted
-from documents import TOP
+from documents import TOP, blocks, section, text_of
 from forward import Source
 from next_hop import hold
 from relay import free_ports, until
@@ -68,6 +69,30 @@ def test_restart(booted, program, next_hop, tmp_path):
     assert "stopped: all is delivered" in journal(booted)
     until(lambda: booted.run("systemctl", "is-active", "forward_relay", may_fail=True) == "failed\n", "it does not end")
     assert booted.run("ls", "/run").split().count("forward_relay") == 0
+
+
+@pytest.mark.minutes
+def test_a_group_that_may_send(booted, program, next_hop, tmp_path):
+    """With OPERATING's drop-in a group may send over a Unix socket, and not stop the relay, which systemd still can."""
+    hop = next_hop()
+    text = section(text_of("docs/OPERATING.md"), "### Over a Unix socket")
+    (drop_in,) = [block for block in blocks(text) if block.startswith("[Service]")]
+    control = re.search(r'`control = "(.*?)"`', text)[1]
+    folder = "/etc/systemd/system/forward_relay.service.d"
+    booted.run("groupadd", "--force", "logs")
+    booted.run("mkdir", "-p", folder)
+    booted.run("tee", f"{folder}/override.conf", text=drop_in + "RuntimeDirectory=another\n")
+    change = f's|^listen = .*|listen = "unix:/run/forward_relay/sources"|; s|^control = .*|control = "{control}"|'
+    installed(booted, program, hop, tmp_path / "given", change)
+    own, sources = control.rpartition("/")[0], "/run/forward_relay/sources"
+    assert booted.run("stat", "-c", "%a %U %G", "/run/forward_relay", own, sources).splitlines() == [
+        "750 _forward_relay logs",
+        "700 _forward_relay logs",
+        "770 _forward_relay logs",
+    ]
+    booted.run("systemctl", "restart", "forward_relay")
+    until(lambda: journal(booted).count("listening: sources") == 2, lambda: journal(booted))
+    assert "stopped: all is delivered" in journal(booted)
 
 
 @pytest.mark.minutes

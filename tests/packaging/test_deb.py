@@ -96,7 +96,7 @@ def test_installed_to_purged(make, machine, tmp_path):
     assert machine.run("stat", "-c", "%U %a", SETTINGS) == "root 600\n"
     assert machine.run("getent", "passwd", "_forward_relay").endswith(":/nonexistent:/usr/sbin/nologin\n")
     machine.run("ls", "/lib/systemd/system/forward_relay.service", "/usr/share/doc/forward-relay/examples/haproxy.cfg")
-    machine.run("ls", "/usr/bin/forward_relay-sizing", "/usr/share/doc/forward-relay/OPERATING.md")
+    machine.run("ls", "/usr/bin/forward_relay-next_hop", "/usr/share/doc/forward-relay/AVAILABILITY.md")
 
     machine.run("systemctl", "enable", "forward_relay")
     machine.run("sed", "-i", "s/^connections = 256/connections = 300/", SETTINGS)
@@ -116,6 +116,23 @@ def test_installed_to_purged(make, machine, tmp_path):
     machine.run("dpkg", "--purge", "forward-relay")
     assert [path for path in machine.written() if re.search("forward.relay", path)] == []
     assert machine.run("cat", "/etc/passwd", "/etc/group") == before
+
+
+@pytest.mark.quick
+def test_over_what_install_put_there(make, machine, tmp_path):
+    """A unit that hides the package's is named; with the option that OPERATING names, the settings that are there stay."""
+    shutil.copy(make(), tmp_path / "given/one.deb")
+    unit, settings = "/usr/local/lib/systemd/system/forward_relay.service", "# ours\n"
+    machine.run("install", "-D", "/dev/null", unit)
+    machine.run("install", "-D", "/dev/stdin", SETTINGS, text=settings)
+    option = re.search(r"Dpkg::Options::=(--\S+)`", text_of("docs/OPERATING.md"))[1]
+    status, said = machine.enter(["chroot", machine.root, "dpkg", "--install", "/mnt/one.deb"])
+    assert status != 0 and "conffile" in said  # without an answer
+    said = machine.run("dpkg", option, "--install", "/mnt/one.deb")
+    assert f"systemd uses {unit}" in said
+    assert machine.run("cat", SETTINGS) == settings
+    machine.run("rm", unit)
+    assert "systemd uses" not in machine.run("dpkg-reconfigure", "--priority=critical", "forward-relay")
 
 
 @pytest.mark.minutes

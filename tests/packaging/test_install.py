@@ -35,8 +35,9 @@ def test_put_in_place_and_taken_away(install, tmp_path):
     prefix = tmp_path / "p"
     there = files(prefix)
     wanted = {"sbin/forward_relay", "share/man/man8/forward_relay.8", "lib/systemd/system/forward_relay.service"}
-    wanted |= {"bin/forward_relay-watch", "bin/forward_relay-sizing"}
-    assert wanted | {"etc/forward_relay/relay.toml", "share/doc/forward_relay/OPERATING.md"} <= there
+    wanted |= {f"bin/forward_relay-{tool}" for tool in ("watch", "sizing", "next_hop")}
+    wanted |= {f"share/doc/forward_relay/{name}.md" for name in ("OPERATING", "FORMATS", "AVAILABILITY", "CHANGELOG")}
+    assert wanted | {"etc/forward_relay/relay.toml", "share/doc/forward_relay/examples/alerts.yml"} <= there
     checked = [prefix / "sbin/forward_relay", "check", prefix / "etc/forward_relay/relay.toml"]
     assert subprocess.run(checked, capture_output=True).returncode == 0
     assert (prefix / "etc/forward_relay/relay.toml").stat().st_mode & 0o777 == 0o600
@@ -62,6 +63,9 @@ def test_documents_name_what_is_there(install, tmp_path):
     assert [word for word in sorted(examples) if not (doc / word).is_file()] == []
     tools = {word for word in words if re.fullmatch(r"forward_relay-\w+", word)}
     assert [word for word in sorted(tools) if not os.access(bin_folder / word, os.X_OK)] == []
+    assert {one.name for one in bin_folder.iterdir()} == tools
+    links = {link for text in texts.values() for link in re.findall(r"\]\((\w+\.md)", text)}
+    assert [link for link in links if not (doc / link).is_file()] == []
     assert [word for word in words if re.match(r"(?:tools|tests|bench|dev|docs|crates)/", word)] == []
     packing = ("## Installing and running", "### In a container")
     text = texts["OPERATING.md"]
@@ -81,7 +85,7 @@ def test_examples_of_versions_before_go(install, tmp_path):
     assert not (doc / "haproxy.cfg").exists()
 
 
-@pytest.mark.parametrize("tool", ["watch", "sizing"])
+@pytest.mark.parametrize("tool", ["watch", "sizing", "next_hop"])
 def test_tools_start(install, tmp_path, tool):
     """Each tool finds what it is made of: it says what is wrong with its call."""
     assert install().returncode == 0

@@ -13,7 +13,8 @@ import pytest
 import loggers
 from documents import TOP, blocks, text_of
 from forward import HOST, Source
-from relay import free_ports, settings, until
+from next_hop import later
+from relay import free_ports, settings, steady, until
 
 pytestmark = pytest.mark.minutes
 
@@ -282,6 +283,22 @@ def test_the_log_driver_in_bursts(engine, busybox, stoppable, next_hop, removed)
     ways = [way for way in WAYS if way.startswith("false")]
     missing = lines_without(logged(engine, busybox, one, hop, ways, BURSTS, ends), 50 * LINES)
     assert all(len(numbers) <= STOPS for numbers in missing.values()), missing
+
+
+def test_a_fast_container(engine, busybox, relay, next_hop, removed):
+    """`seq 1 20000`, with 10 ms to the acknowledgement: Docker drops most lines where it asks, and none where it does not.
+
+    It asks for each line, and drops what is left some seconds after the container has ended. OPERATING says so.
+    """
+    hop = next_hop(answer=later(0.01))
+    one = relay([{"servers": [hop.port], "flush_interval": 0, "window": 8}])
+    for way in ("true.true", "true.false", "false.false"):
+        engine.run("run", *logging(way, one.port), busybox, "/bin/busybox", "seq", "1", "20000")
+        engine.run("wait", way)
+    steady(hop.count, 3)
+    came = {way: {record["log"] for tag, _, record in hop.entries() if tag == way} for way in WAYS}
+    lost = {way: 20_000 - len(lines) for way, lines in came.items()}
+    assert lost["false.false"] == 0 and min(lost["true.true"], lost["true.false"]) > 10_000, lost
 
 
 def lines_without(came, count):
