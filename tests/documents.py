@@ -3,7 +3,7 @@
 import re
 import shutil
 
-from relay import TOP
+from relay import BUILT, TOP, built_program
 
 TEXT = r'(?:"(?:[ !#-\[\]-~]|\\["\\])*"|(?:[0-9a-f]{2})+)'  # bytes of a peer in the journal
 
@@ -21,6 +21,12 @@ PARTS = {
 def text_of(name):
     """A file of the repository."""
     return (TOP / name).read_text()
+
+
+def version_pattern():
+    """The pattern of the version that the program says: the code's, and a word if dev/build.py built what RELAY names."""
+    number = re.search(r'VERSION: &str = "(.+)";', text_of("crates/fwd_monitor/src/version.rt"))[1]
+    return re.escape(number) + ("" if built_program() == str(BUILT) else r"(?:\+unproved(?:\.[a-z]+)?)?")
 
 
 def section(text, heading):

@@ -1,4 +1,4 @@
-"""The blocks of commands of README and OPERATING, typed as they stand: on a page, and with the indent that the file has."""
+"""The blocks of commands of README, OPERATING and tools/README, typed: on a page, and with the indent that the file has."""
 
 import contextlib
 import os
@@ -14,6 +14,9 @@ from relay import BUILT, built_program
 
 # What a block shows, by a word of it. The documents say so too.
 SHOWN = {
+    "sh demo": [
+        "No line was acknowledged before the next hop acknowledged it, and none is lost. All is stopped.",
+    ],
     "rt run": ["settings are good, outputs: 1"],
     "next_hop.py": [
         "settings are good, outputs: 1",
@@ -35,7 +38,7 @@ CHOSEN = {"[--prefix P]": "--prefix {folder}"}
 
 def found():
     """Each block that is to be typed, with its document. Those that prove take minutes."""
-    for name in ("README.md", "docs/OPERATING.md"):
+    for name in ("README.md", "docs/OPERATING.md", "tools/README.md"):
         for block in filter(is_of_commands, blocks(text_of(name))):
             label = f"{name}: {block.splitlines()[0][:40]}"
             if re.search(r"\brt ", block):
@@ -89,7 +92,8 @@ def test_block(program, tmp_path, name, block):
 
 
 @pytest.mark.quick
-def test_readme_has_them():
-    """README has the blocks that a reader begins with."""
-    typed = "".join(filter(is_of_commands, blocks(text_of("README.md"))))
-    assert all(word in typed for word in ("rt run", "next_hop.py", "replay"))
+def test_readme_begins_with_the_demo():
+    """README has the demo first, then what proves the program."""
+    first, second, *_ = filter(is_of_commands, blocks(text_of("README.md")))
+    assert first == "sh demo\n"
+    assert "rt run" in second

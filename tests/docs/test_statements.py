@@ -101,6 +101,16 @@ def test_times():
         assert re.findall(r"which takes (about [^,;:]*? hour)", text_of(name)) == [program], name
 
 
+def test_programs_without_proof():
+    """README says how long the demo's build takes as CONTRIBUTING does; PERFORMANCE says what builds such a program."""
+    said = section(text_of("CONTRIBUTING.md"), "## How long it takes")
+    minutes = re.search(r"^- `python3 dev/build\.py` .*?: some (\w+ minutes)\.", said, re.MULTILINE)[1]
+    shown = section(text_of("README.md"), "## Try it").replace("\n", " ")
+    assert f"some {minutes} on four cores" in shown
+    figures = text_of("docs/PERFORMANCE.md")
+    assert figures.count("without proof") == figures.count("without proof (`python3 dev/build.py --fast`)") > 0
+
+
 def test_edits():
     """The documents count the must-fail edits that there are, and say how long one takes in one place alone."""
     count = len(list(TOP.glob("crates/fwd_*/must-fail*/*.edit")))

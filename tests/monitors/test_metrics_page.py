@@ -14,7 +14,7 @@ import urllib.request
 
 import pytest
 
-from documents import text_of
+from documents import version_pattern
 from exposition import read_metrics
 from forward import HOST, connect
 from next_hop import acknowledge, hold, refuse_above
@@ -263,7 +263,8 @@ def test_what_runs(relay, next_hop):
     patterns = ["a.{b,c} d", 'a."\\', "**"]
     one = relay([{"match": pattern, "servers": [next_hop().port]} for pattern in patterns], metrics=True)
     samples = metrics(one)
-    version = re.search(r'VERSION: &str = "(.+)";', text_of("crates/fwd_monitor/src/version.rt"))[1]
+    (version,) = [dict(labels)["version"] for name, labels in samples if name == FRONT + "build_info"]
+    assert re.fullmatch(version_pattern(), version)
     assert value(samples, "build_info", version=version) == 1
     shown = [dict(labels) for name, labels in samples if name == FRONT + "output_info"]
     assert shown == [{"output": str(number), "match": pattern} for number, pattern in enumerate(patterns)]

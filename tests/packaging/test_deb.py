@@ -9,7 +9,7 @@ import subprocess
 
 import pytest
 
-from documents import TOP, text_of
+from documents import TOP, text_of, version_pattern
 from machine import Machine
 
 SETTINGS = "/etc/forward_relay/relay.toml"
@@ -70,6 +70,7 @@ def test_version(make, tmp_path):
     package = make()
     assert package.read_bytes() == make("again").read_bytes()
     version = done(["dpkg-deb", "-f", package, "Version"]).strip()
+    assert re.fullmatch(version_pattern(), version)
     assert package.name == f"forward-relay_{version}_amd64.deb"
     done(["dpkg-deb", "-x", package, tmp_path / "x"])
     man = gzip.decompress((tmp_path / "x/usr/share/man/man8/forward_relay.8.gz").read_bytes()).decode()
@@ -78,7 +79,7 @@ def test_version(make, tmp_path):
     settings.write_text(text_of("examples/relay.toml").replace("127.0.0.1:24224", "127.0.0.1:1"))
     words = [f"{tmp_path}/x{PROGRAM}", "run", settings, "1"]
     ran = subprocess.run(words, env=os.environ | {"FORWARD_RELAY_LOG": "info"}, capture_output=True, timeout=60)
-    assert f" started: forward_relay {version} settings " in ran.stderr.decode()
+    assert re.search(f" started: forward_relay {version_pattern()} settings ", ran.stderr.decode())
 
 
 @pytest.mark.quick

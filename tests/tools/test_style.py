@@ -35,7 +35,7 @@ def test_python(needed, words):
 def test_shell(needed):
     """Every script."""
     needed("shellcheck", shutil.which("shellcheck"))
-    passes(["shellcheck", "--severity=warning", *sources(".sh"), "tests/run"])
+    passes(["shellcheck", "--severity=warning", *sources(".sh"), "tests/run", "demo"])
     passes(["shellcheck", "--severity=warning", "--shell=sh", ".ci/run"])
 
 
