@@ -127,8 +127,9 @@ def test_who_waits_long_gives_its_place(relay, next_hop):
 
 
 def comes_in(one):
-    """A new source that waits, or None where it is over the limit."""
+    """A new source that waits, or None where it is over the limit: it is closed, or another one is for it."""
     source = begin_to_wait(one, "new")
+    one.until(lambda: source.is_closed(0.1) or one.lines("source closed: "), "neither it nor another one is closed")
     return None if source.is_closed(0.1) else source
 
 
